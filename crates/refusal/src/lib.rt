@@ -1,0 +1,57 @@
+// The fourteen refusals of document 01, 'When the desk says no', and the number that each is known by.
+// Every answer of the crates above is put on paper as `Said` (specs/Said.antt), and the promises are equations of it.
+ghost use mathlib.Core.Path.{_≡_};
+ghost use Rattle.refusal.specs.Said.{numberOf};
+
+pub enum Refusal {
+    // 1: an address rule is broken.
+    Address,
+    // 2: an exact read or a skip doesn't fit its range.
+    Overrun,
+    // 3: General is needed and not found.
+    NoCategory,
+    // 4: the stored string is longer than the lent room.
+    StringTooLong { room: u16, stored: u16 },
+    // 5: a field value that its type doesn't admit, or a PDO entry missing.
+    Decode,
+    // 6: a list is over its limit.
+    Capacity,
+    // 7: a word to write isn't wholly in the image.
+    NotWritable,
+    // 8: `push_pdu` has no space.
+    TooLong,
+    // 9: no port is active.
+    NoPort,
+    // 10: a port number outside 0 to 3.
+    BadPort,
+    // 11: a sum of delays exceeds 32 bits.
+    Sum,
+    // 12: the frame reader's rule is broken.
+    BadFrame,
+    // 13: no permitted cutting exists.
+    NoRoom,
+    // 14: a size, command, category number or state outside document 01's bounds.
+    BadArgument,
+}
+
+// The number by which document 01 knows a refusal.
+pub fn number(x: Refusal) -> u8
+    ensures { λ r. ⌜ r ≡ numberOf x ⌝ }
+{
+    match x {
+        Refusal::Address => 1,
+        Refusal::Overrun => 2,
+        Refusal::NoCategory => 3,
+        Refusal::StringTooLong { room: _, stored: _ } => 4,
+        Refusal::Decode => 5,
+        Refusal::Capacity => 6,
+        Refusal::NotWritable => 7,
+        Refusal::TooLong => 8,
+        Refusal::NoPort => 9,
+        Refusal::BadPort => 10,
+        Refusal::Sum => 11,
+        Refusal::BadFrame => 12,
+        Refusal::NoRoom => 13,
+        Refusal::BadArgument => 14,
+    }
+}
