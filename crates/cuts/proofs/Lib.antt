@@ -1,0 +1,4 @@
+pub mod Laws
+pub mod Greedy
+pub mod Better
+mod Vectors
