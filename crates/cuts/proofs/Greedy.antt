@@ -25,10 +25,11 @@ unfolding Rising
 piece-rising lo m a o zero ps h k r q = q
 piece-rising lo m a o (suc t) ps h k r q = (h, k, r)
 
-piece-last : (l a o t b : ℕ) (ps : List Piece) → lastArea l ps ≤ b → lastArea a ps ≤ b → lastArea l (piece a o t ps) ≤ b
+-- what holds of the last area with and without the piece's own holds of the last area
+pub piece-last : (P : ℕ → Type 0) (l a o t : ℕ) (ps : List Piece) → P (lastArea l ps) → P (lastArea a ps) → P (lastArea l (piece a o t ps))
 unfolding lastArea
-piece-last l a o zero b ps h k = h
-piece-last l a o (suc t) b ps h k = k
+piece-last P l a o zero ps h k = h
+piece-last P l a o (suc t) ps h k = k
 
 module _ (free : ℕ → ℕ) where
   piece-load : (k a o t : ℕ) (ps : List Piece) → load k ps ≤ free k → (k ≡ a → load k ps ≡ 0) → t ≤ room free a → load k (piece a o t ps) ≤ free k
@@ -107,7 +108,7 @@ module _ (free : ℕ → ℕ) where
       rw e (rw (greedy-nothing (suc d) i o) h)
   ends-by (suc d) (suc j) i o left l h k =
       let t = min left (room free (suc i)) in
-      rw (add-suc, ← suc-add) (piece-last l (suc i) o t (suc i + j) (greedyFrom free d (suc i) (o + t) (left - t))
+      rw (add-suc, ← suc-add) (piece-last (λ (z : ℕ). z ≤ suc i + j) l (suc i) o t (greedyFrom free d (suc i) (o + t) (left - t))
       (ends-by d j (suc i) (o + t) (left - t) l (omega arith) (omega arith))
       (ends-by d j (suc i) (o + t) (left - t) (suc i) (omega arith) (omega arith)))
 

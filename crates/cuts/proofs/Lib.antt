@@ -1,4 +1,5 @@
 pub mod Laws
+pub mod Divide
 pub mod Greedy
 pub mod Better
-mod Vectors
+pub mod Vectors
