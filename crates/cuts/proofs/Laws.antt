@@ -59,6 +59,12 @@ rising-none k lo m (p ∷ ps) h r =
     rw (ne-eqb (p .area) k (λ e. omega (arith, r .0)))
     (omega (arith, rising-none k (p .area) m ps (omega (arith, r .0)) (r .2)))
 
+-- .. nor have those past the row
+pub rising-past : (k lo m : ℕ) (ps : List Piece) → m < k → Rising lo m ps → load k ps ≡ 0
+unfolding load Rising
+rising-past k lo m [] h r = refl
+rising-past k lo m (p ∷ ps) h r = rw (ne-eqb (p .area) k (λ e. omega (arith, r .1))) (omega (arith, rising-past k (p .area) m ps h (r .2)))
+
 -- a piece behind the others
 pub rising-snoc : (ps : List Piece) (p : Piece) (lo m : ℕ) → Rising lo m ps → lastArea lo ps ≤ p .area → p .area ≤ m → Rising lo m (ps ++ (p ∷ []))
 unfolding Rising lastArea
