@@ -20,11 +20,10 @@ def line_batches(those):
     """The lines that each piece completes, without their line ends."""
     begun = []
     for piece in those:
-        if b"\n" not in piece:
-            # Joined only once, so that a very long line stays cheap.
-            begun.append(piece)
-            continue
         begun.append(piece)
+        # Joined only at a line end, so that a very long line stays cheap.
+        if b"\n" not in piece:
+            continue
         lines = b"".join(begun).split(b"\n")
         begun = [lines.pop()]
         yield lines

@@ -72,8 +72,8 @@ def data(word):
 def said(call, *arguments):
     """`gives`, `absent` or `refuses` with the values of a call.
 
-    A call gives one number, a row of numbers, or nothing: the caller says
-    which by wrapping it, see `nothing`.
+    A call gives one number, a row of numbers, or absent. `nothing` and
+    `counted` wrap those that give something else.
     """
     try:
         values = call(*arguments)
