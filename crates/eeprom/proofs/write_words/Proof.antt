@@ -8,7 +8,7 @@ use lib.ListN.{length, drop}
 use borrow.Author.Tests.{ltb-true, ltb-false}
 use Rattle.eeprom.specs.Image.{endMost}
 use Rattle.eeprom.specs.Range.{words, Wrote, wrote}
-use Rattle.eeprom.proofs.Laws.{over, wrote-end, wrote-all, wrote-next, wrote-stop}
+use Rattle.eeprom.proofs.Words.{over, wrote-end, wrote-all, wrote-next, wrote-stop}
 use Rattle.eeprom.proofs.write_words.Statement.{statement}
 use Rattle.eeprom.proofs.write_words.Tie as tie
 
