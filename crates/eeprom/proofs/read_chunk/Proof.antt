@@ -3,7 +3,7 @@ use mathlib.Core.Path.{ap, _∙_}
 use native.Mathlib.Omega.{arith}
 use borrow.Author.Needs.{needs}
 use Rattle.eeprom.specs.Image.{chunkOf}
-use Rattle.eeprom.proofs.Laws.{width-most}
+use Rattle.eeprom.proofs.Chunks.{width-most}
 use Rattle.eeprom.proofs.read_chunk.Statement.{statement}
 use Rattle.eeprom.proofs.read_chunk.Tie as tie
 
