@@ -1,14 +1,20 @@
--- Laws of the image's chunks: a byte, or a stretch of bytes, of a chunk is the image's, whatever the chunk's width.
-use Prim.Native.Nat.{ℕ, zero, suc, _+_, _-_, _*_, _/_, _%_, _≤_, _<_}
-use native.Mathlib.Nat.{not-suc-le-zero, le-of-suc-le-suc, add-zero, zero-add}
+-- Laws of the image's chunks and of a range. A byte, or a stretch of bytes, of a chunk is the image's, whatever the chunk's width.
+use Prim.Native.Nat.{ℕ, zero, suc, _+_, _-_, _*_, _/_, _%_, _≤_, _<_, min, max}
+use native.Mathlib.Nat.{not-suc-le-zero, le-of-suc-le-suc, add-zero}
 use native.Mathlib.Omega.{arith}
 use mathlib.Core.Path.{_≡_, refl, sym, ap, _∙_}
 use mathlib.Core.List.{List, [], _∷_, _++_, append-assoc}
-use lib.ListN.{length, take, drop, replicate}
-use lib.Seq.{take-at, drop-at}
-use Rattle.wire.specs.Bytes.{byteAt, le16, le32, span, filled}
-use Rattle.wire.proofs.Laws.{length-span, span-add}
-use Rattle.eeprom.specs.Image.{chunkOf, widthOf}
+use mathlib.Core.Bool.{Bool, true, false}
+use lib.Dec.{leb, ltb, eqb}
+use lib.ListN.{length, getD, take, drop, replicate, drop-of-length-le}
+use lib.Seq.{take-at, drop-at, drop-drop}
+use borrow.Author.Tests.{lt-ltb, le-ltb, le-leb, lt-leb, leb-true, leb-false, eqb-true}
+use Rattle.refusal.specs.Said.{Said, gives, refuses, pick, on3}
+use Rattle.refusal.proofs.Tests.{both}
+use Rattle.wire.specs.Bytes.{byteAt, le16, le32, span, filled, overlay, laid}
+use Rattle.wire.proofs.Laws.{length-span, span-add, laid-whole}
+use Rattle.eeprom.specs.Image.{within, fine, chunkOf, widthOf}
+use Rattle.eeprom.specs.Range.{taken, readSaid, exactSaid, words, wordStart, Wrote, wrote}
 use Rattle.eeprom.specs.declared.Chunk.{Chunk}
 use Rattle.eeprom.specs.declared.Chunk.the-variants as chunk
 
@@ -75,3 +81,96 @@ long-read image i low high p q =
     let e : 2 * (i / 2) + i % 2 ≡ i = halves i in
     let f : 2 * (i / 2 + 1) + i % 2 ≡ i + 2 = omega arith in
     rw (p, q, e, f)
+
+-- m bytes of a chunk, laid
+pub chunk-laid : (image bytes buf out : List ℕ) (c : Chunk) (pos m at : ℕ) → bytes ≡ chunkOf image (pos / 2) (widthOf c) → pos % 2 + m ≤ widthOf c
+    → at + m ≤ length buf → out ≡ laid buf at (take (pos % 2 + m - pos % 2) (drop (pos % 2) bytes)) → out ≡ overlay buf at (span image pos m)
+chunk-laid image bytes buf out c pos m at e h k q =
+    let n : pos % 2 + m - pos % 2 ≡ m = omega arith in
+    let part : take m (drop (pos % 2) (chunkOf image (pos / 2) (widthOf c))) ≡ span image pos m =
+        chunk-part image (pos / 2) (widthOf c) (pos % 2) m h ∙ ap (λ (i : ℕ). span image i m) (halves pos) in
+    let fits : at + length (span image pos m) ≤ length buf = rw (length-span image pos m) k in
+    rw (q, n, e, part, laid-whole buf at (span image pos m) fits)
+
+-- ---- a buffer filled by n bytes, and the next m laid behind them
+pub filled-next : (s : List ℕ) (i n m : ℕ) (buf : List ℕ) → overlay (filled s i n buf) n (span s (i + n) m) ≡ filled s i (n + m) buf
+unfolding filled overlay
+filled-next s i n m buf =
+    rw (
+      length-span s (i + n) m,
+      take-at (span s i n) (drop n buf) n (length-span s i n),
+      ← drop-drop m n (span s i n ++ drop n buf),
+      drop-at (span s i n) (drop n buf) n (length-span s i n),
+      drop-drop,
+      span-add,
+    )
+
+-- ---- writing
+
+-- the words of what is left of the bytes: the next one, and the words after it
+pub words-next : (bytes : List ℕ) (n : ℕ) → n < length bytes → words (drop n bytes) ≡ (getD bytes n 0 ∷ getD bytes (n + 1) 0 ∷ []) ∷ words (drop (n + 2) bytes)
+unfolding words
+words-next [] n h = absurd (not-suc-le-zero h)
+words-next (a ∷ []) zero h = refl
+words-next (a ∷ b ∷ rest) zero h = refl
+words-next (a ∷ bytes) (suc n) h =
+    let one : suc n + 1 ≡ suc (n + 1) = omega arith in
+    let two : suc n + 2 ≡ suc (n + 2) = omega arith in
+    rw (one, two) (words-next bytes n (le-of-suc-le-suc h))
+
+-- a write that ends: the image as it then is, and how far it came
+abbrev pub over : List ℕ → ℕ → ℕ → ℕ → Wrote
+over image n pos end = record { image = image; said = gives (n ∷ pos ∷ end ∷ []) }
+
+pub wrote-end : (image : List ℕ) (n pos end : ℕ) (ws : List (List ℕ)) → end ≤ pos → wrote image n pos end ws ≡ over image n pos end
+unfolding wrote
+wrote-end image n pos end [] h = refl
+wrote-end image n pos end (w ∷ ws) h = rw (le-ltb pos end h)
+
+pub wrote-all : (image : List ℕ) (n pos end : ℕ) (bytes : List ℕ) → length bytes ≤ n → wrote image n pos end (words (drop n bytes)) ≡ over image n pos end
+unfolding wrote words
+wrote-all image n pos end bytes h = rw (drop-of-length-le bytes {i = n} h)
+
+pub wrote-next : (image : List ℕ) (n pos end : ℕ) (bytes : List ℕ) → pos < end → n < length bytes → wordStart pos + 2 ≤ length image
+    → wrote image n pos end (words (drop n bytes))
+    ≡ wrote (overlay image (wordStart pos) (getD bytes n 0 ∷ getD bytes (n + 1) 0 ∷ [])) (n + 2) (pos + 2) end (words (drop (n + 2) bytes))
+unfolding wrote
+wrote-next image n pos end bytes h i j = rw (words-next bytes n i, lt-ltb pos end h, le-leb (wordStart pos + 2) (length image) j)
+
+pub wrote-stop : (image : List ℕ) (n pos end : ℕ) (bytes : List ℕ) → pos < end → n < length bytes → length image < wordStart pos + 2
+    → wrote image n pos end (words (drop n bytes)) ≡ record { image = image; said = refuses 7 (pos ∷ end ∷ []) }
+unfolding wrote
+wrote-stop image n pos end bytes h i j = rw (words-next bytes n i, lt-ltb pos end h, lt-leb (wordStart pos + 2) (length image) j)
+
+-- ---- the bounds of a call
+
+-- an end within the bounds is even
+pub fine-even : (image : List ℕ) (end : ℕ) → fine image end ≡ true → end % 2 ≡ 0
+unfolding fine
+fine-even image end e = eqb-true (end % 2) 0 (both (within image) (eqb (end % 2) 0) e .1)
+
+-- ---- an exact read
+
+-- what an exact read says of a read that took n bytes of k
+abbrev pub exactly : ℕ → ℕ → ℕ → ℕ → Said
+exactly k n pos end = pick (ltb n k) (refuses 2 (pos ∷ end ∷ [])) (gives (pos ∷ end ∷ []))
+
+-- an exact read is a read, and the test that it took all
+pub exact-reads : (image : List ℕ) (pos end k : ℕ) → exactSaid image pos end k ≡ on3 (readSaid image pos end k) (exactly k)
+unfolding exactSaid readSaid on3
+exact-reads image pos end k = go (fine image end) (leb k (end - pos)) refl
+  where
+    go : (f b : Bool) → leb k (end - pos) ≡ b
+        → pick f (pick b (gives ((pos + k) ∷ end ∷ [])) (refuses 2 (max pos end ∷ end ∷ []))) (refuses 14 [])
+        ≡ on3 (pick f (gives (taken pos end k ∷ (pos + taken pos end k) ∷ end ∷ [])) (refuses 14 [])) (exactly k)
+    go false b e = refl
+    go true true e =
+        let h : k ≤ end - pos = leb-true k (end - pos) e in
+        let n : min k (end - pos) ≡ k = omega arith in
+        let m : k ≤ k = omega arith in
+        rw (n, le-ltb k k m)
+    go true false e =
+        let h : end - pos < k = leb-false k (end - pos) e in
+        let n : min k (end - pos) < k = omega arith in
+        let m : pos + min k (end - pos) ≡ max pos end = omega arith in
+        rw (lt-ltb (min k (end - pos)) k n, m)
