@@ -1,3 +1,4 @@
+pub mod On
 pub mod Laws
 pub mod First
 pub mod Unique

@@ -9,7 +9,8 @@ use refusal::Refusal;
 ghost use mathlib.Core.Path.{_≡_};
 ghost use Prim.Native.Nat.{_+_, _≤_, _<_};
 ghost use Rattle.eeprom.specs.Answers.{saidRange};
-ghost use Rattle.category.specs.Category.{numbers, among, counted, decided, stepped, searched, categorySaid};
+ghost use Rattle.category.specs.Layout.{headerWords, wordMost};
+ghost use Rattle.category.specs.Category.{numbers, emptyMost, among, counted, decided, stepped, searched, categorySaid};
 ghost use Rattle.category.specs.Answers.{saidFound, saidStep};
 
 // The categories that may be sought, by their numbers in the SII.
@@ -111,7 +112,7 @@ fn search(image: &[u8], chunk: Chunk, number: u16) -> Found
 
 // The header at word, before which there are so many empty ones.
 fn header(image: &[u8], chunk: Chunk, number: u16, word: u32, empties: u32) -> Step
-    requires { ⌜ (word ≤ 65535) × (empties < 32) ⌝ }
+    requires { ⌜ (word ≤ wordMost) × (empties < emptyMost) ⌝ }
     ensures { λ r. ⌜ saidStep r ≡ stepped (now (image .entry)) number word empties ⌝ }
 {
     let category_type = word_of(image, chunk, 2 * word);
@@ -127,7 +128,7 @@ fn header(image: &[u8], chunk: Chunk, number: u16, word: u32, empties: u32) -> S
 
 // The count of empty headers with one of this length.
 fn count(len_words: u16, empties: u32) -> u32
-    requires { ⌜ empties < 32 ⌝ }
+    requires { ⌜ empties < emptyMost ⌝ }
     ensures { λ r. ⌜ r ≡ counted «len_words» empties ⌝ }
 {
     if len_words == 0 { empties + 1 } else { empties }
@@ -135,7 +136,7 @@ fn count(len_words: u16, empties: u32) -> u32
 
 // What a header leads to whose body stands at word body, and with which there are e empty ones.
 fn decide(category_type: u16, len_words: u16, number: u16, body: u32, e: u32) -> Step
-    requires { ⌜ body ≤ 65537 ⌝ }
+    requires { ⌜ body ≤ wordMost + headerWords ⌝ }
     ensures { λ r. ⌜ saidStep r ≡ decided «category_type» «len_words» number body e ⌝ }
 {
     if WORD_MOST < body {

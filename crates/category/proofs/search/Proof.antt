@@ -1,9 +1,10 @@
 -- `search` goes header by header: what the search says from the header at hand on is what the whole search says.
 use borrow.Author.Needs.{needs}
-use Prim.Native.Nat.{_≤_, _<_, _-_}
+use Prim.Native.Nat.{suc, _≤_, _<_, _-_}
 use mathlib.Core.Path.{_≡_, _∙_, ap, sym}
 use native.Mathlib.Omega.{arith}
-use Rattle.category.specs.Category.{searchFrom, searched}
+use Rattle.category.specs.Category.{emptyMost, searchFrom, searched}
+use Rattle.category.specs.Layout.{wordMost}
 use Rattle.category.specs.Answers.{saidStep}
 use Rattle.category.proofs.Laws.{search-first, loop-done, loop-next}
 use Rattle.category.proofs.search.Statement.{statement}
@@ -11,10 +12,10 @@ use Rattle.category.proofs.search.Tie as tie
 
 abbrev Inv-loop : tie.InvT-loop
 Inv-loop image chunk number word₀ empties₀ word empties =
-    (word ≤ 65535) × (empties < 32) × (searchFrom image number word empties ≡ searched image number)
+    (word ≤ wordMost) × (empties < emptyMost) × (searchFrom image number word empties ≡ searched image number)
 
 abbrev μ-loop : tie.MeasureT-loop
-μ-loop image chunk number word₀ empties₀ word empties = 65536 - word
+μ-loop image chunk number word₀ empties₀ word empties = suc wordMost - word
 
 loop-holds : tie.Need-loop-holds Inv-loop μ-loop
 loop-holds c = (search needs, search needs, search-first _ _)
