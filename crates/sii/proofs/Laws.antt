@@ -1,29 +1,14 @@
--- Laws of what is read out, stated over lists and numbers, for the functions' ways out.
+-- Setting the alias: what each way out says and leaves, from the tests that led there.
 use Prim.Native.Nat.{ℕ, _≤_, _<_}
-use mathlib.Core.Path.{_≡_, refl, ap, sym, _∙_}
-use mathlib.Core.List.{List, [], _∷_}
+use mathlib.Core.Path.{_≡_}
+use mathlib.Core.List.{List, []}
 use mathlib.Core.Bool.{Bool, true, false}
 use lib.ListN.{length}
 use lib.Dec.{leb}
 use borrow.Author.Tests.{le-leb, lt-leb}
-use Rattle.refusal.specs.Said.{Said, gives, absent, refuses, on2}
+use Rattle.refusal.specs.Said.{gives, refuses}
 use Rattle.eeprom.specs.Image.{within}
 use Rattle.sii.specs.Fixed.{lent, checksumEnd, aliased, setSaid, setImage}
-
--- ---- what follows a call
-
-module _ (s : Said) (k : ℕ → ℕ → Said) where
-  pub on2-gives : (a b : ℕ) → gives (a ∷ b ∷ []) ≡ s → k a b ≡ on2 s k
-  unfolding on2
-  on2-gives a b h = rw (← h)
-
-  pub on2-absent : absent ≡ s → absent ≡ on2 s k
-  unfolding on2
-  on2-absent h = rw (← h)
-
-  pub on2-refuses : (n : ℕ) (l : List ℕ) → refuses n l ≡ s → refuses n l ≡ on2 s k
-  unfolding on2
-  on2-refuses n l h = rw (← h)
 
 -- ---- setting the alias: what is said, and what is left in the image
 

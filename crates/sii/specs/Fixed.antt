@@ -64,10 +64,13 @@ abbrev pub mailboxValues : DefaultMailbox → List ℕ
 mailboxValues m =
     m .«subdevice_receive_offset» ∷ m .«subdevice_receive_size» ∷ m .«subdevice_send_offset» ∷ m .«subdevice_send_size» ∷ m .«supported_protocols» ∷ []
 
--- the protocols' undefined bits are 5
+-- no undefined bit stands in the protocols
+abbrev pub mailboxAdmits : DefaultMailbox → Bool
+mailboxAdmits m = ltb (m .«supported_protocols») protocolsBelow
+
 unfoldable pub mailboxSaid : List ℕ → Said
 mailboxSaid image =
-    lent image (pick (ltb (fixed image mailboxProtocol) protocolsBelow) (gives (mailboxValues (mailboxOf image))) (refuses 5 []))
+    lent image (pick (mailboxAdmits (mailboxOf image)) (gives (mailboxValues (mailboxOf image))) (refuses 5 []))
 
 -- in bytes, in full: a unit has 128
 unfoldable pub sizeSaid : List ℕ → Said

@@ -52,8 +52,8 @@ generalOf image p = record {
 }
 
 -- no undefined bit stands in the CoE details, nor in the flags
-unfoldable pub generalAdmits : List ℕ → ℕ → Bool
-generalAdmits image p = ltb (field image p coeDetails) coeBelow && ltb (field image p generalFlags) flagsBelow
+unfoldable pub generalAdmits : SiiGeneral → Bool
+generalAdmits g = ltb (g .«coe_details») coeBelow && ltb (g .flags) flagsBelow
 
 abbrev pub bit : Bool → ℕ
 bit true = 1
@@ -69,7 +69,7 @@ generalValues g =
 unfoldable pub generalIn : List ℕ → ℕ → ℕ → Said
 generalIn image p end =
     pick (leb (p + generalBytes) end)
-    (pick (generalAdmits image p) (gives (generalValues (generalOf image p))) (refuses 5 []))
+    (pick (generalAdmits (generalOf image p)) (gives (generalValues (generalOf image p))) (refuses 5 []))
     (refuses 2 [])
 
 -- General, where it is found

@@ -1,6 +1,7 @@
 // What is read out of the SII's fixed area and of its category General, and setting the station alias.
 // Follows subdevice/eeprom.rs and eeprom/types.rs; document 01, 'What is read out'. specs/Layout.antt says where each field lies.
 use category::Found;
+use category::GENERAL;
 use category::category;
 use crc::crc;
 use eeprom::Chunk;
@@ -18,6 +19,20 @@ ghost use Rattle.refusal.specs.Said.{saidOf};
 ghost use Rattle.sii.specs.Fixed.{aliasSaid, identityOf, identitySaid, mailboxOf, mailboxSaid, sizeSaid, checksumEnd, withAlias, withChecksum, setSaid, setImage};
 ghost use Rattle.sii.specs.General.{listed, generalOf, generalAdmits, generalIn, generalFound, generalSaid};
 ghost use Rattle.sii.specs.Answers.{saidAlias, saidSet, saidSize, saidIdentity, saidMailbox, saidFound, saidGeneral};
+
+// Where the fields of the fixed area lie, in bytes.
+const STATION_ALIAS: u32 = 8;
+
+const CHECKSUM: usize = 14;
+
+const IDENTITY: u32 = 16;
+
+const MAILBOX: u32 = 48;
+
+const MEMORY_SIZE: u32 = 124;
+
+// The bytes of General that are decoded.
+const GENERAL_BYTES: u32 = 18;
 
 // The configured station alias.
 pub enum AliasAnswer {
@@ -102,7 +117,7 @@ pub fn station_alias(image: &[u8], chunk: Chunk) -> AliasAnswer
     ensures { λ r. ⌜ saidAlias r ≡ aliasSaid (now (image .entry)) ⌝ }
 {
     if image_within(image) {
-        AliasAnswer::Alias(word_of(image, chunk, 8))
+        AliasAnswer::Alias(word_of(image, chunk, STATION_ALIAS))
     } else {
         AliasAnswer::No(Refusal::BadArgument)
     }
@@ -114,7 +129,7 @@ pub fn set_station_alias(image: &mut [u8], alias: u16) -> AliasSet
     ensures lent { λ _. ⌜ now (image .exit) ≡ setImage (now (image .entry)) alias ⌝ }
 {
     if image_within(image) {
-        if 16 <= image.len() {
+        if CHECKSUM + 2 <= image.len() {
             put_alias(image, alias);
             put_checksum(image);
             AliasSet::Done
@@ -131,15 +146,15 @@ fn put_alias(image: &mut [u8], alias: u16)
     ensures { λ _. ⌜ now (image .exit) ≡ withAlias (now (image .entry)) alias ⌝ }
 {
     let bytes = [(alias % 256) as u8, (alias / 256 % 256) as u8];
-    lay(image, 8, &bytes);
+    lay(image, STATION_ALIAS as usize, &bytes);
 }
 
 fn put_checksum(image: &mut [u8])
     requires { ⌜ checksumEnd ≤ length (now image) ⌝ }
     ensures { λ _. ⌜ now (image .exit) ≡ withChecksum (now (image .entry)) ⌝ }
 {
-    let bytes = [crc(&image[0..14]), 0];
-    lay(image, 14, &bytes);
+    let bytes = [crc(&image[0..CHECKSUM]), 0];
+    lay(image, CHECKSUM, &bytes);
 }
 
 // Vendor, product, revision and serial number.
@@ -157,10 +172,10 @@ fn identity_in(image: &[u8], chunk: Chunk) -> SubDeviceIdentity
     ensures { λ r. ⌜ r ≡ identityOf (now (image .entry)) ⌝ }
 {
     SubDeviceIdentity {
-        vendor_id: long_of(image, chunk, 16),
-        product_id: long_of(image, chunk, 20),
-        revision: long_of(image, chunk, 24),
-        serial: long_of(image, chunk, 28),
+        vendor_id: long_of(image, chunk, IDENTITY),
+        product_id: long_of(image, chunk, IDENTITY + 4),
+        revision: long_of(image, chunk, IDENTITY + 8),
+        serial: long_of(image, chunk, IDENTITY + 12),
     }
 }
 
@@ -169,8 +184,9 @@ pub fn mailbox_config(image: &[u8], chunk: Chunk) -> MailboxAnswer
     ensures { λ r. ⌜ saidMailbox r ≡ mailboxSaid (now (image .entry)) ⌝ }
 {
     if image_within(image) {
-        if byte_of(image, chunk, 56) < 64 {
-            MailboxAnswer::Is(mailbox_in(image, chunk))
+        let mailbox = mailbox_in(image, chunk);
+        if mailbox.supported_protocols < 64 {
+            MailboxAnswer::Is(mailbox)
         } else {
             MailboxAnswer::No(Refusal::Decode)
         }
@@ -183,11 +199,11 @@ fn mailbox_in(image: &[u8], chunk: Chunk) -> DefaultMailbox
     ensures { λ r. ⌜ r ≡ mailboxOf (now (image .entry)) ⌝ }
 {
     DefaultMailbox {
-        subdevice_receive_offset: word_of(image, chunk, 48),
-        subdevice_receive_size: word_of(image, chunk, 50),
-        subdevice_send_offset: word_of(image, chunk, 52),
-        subdevice_send_size: word_of(image, chunk, 54),
-        supported_protocols: byte_of(image, chunk, 56),
+        subdevice_receive_offset: word_of(image, chunk, MAILBOX),
+        subdevice_receive_size: word_of(image, chunk, MAILBOX + 2),
+        subdevice_send_offset: word_of(image, chunk, MAILBOX + 4),
+        subdevice_send_size: word_of(image, chunk, MAILBOX + 6),
+        supported_protocols: byte_of(image, chunk, MAILBOX + 8),
     }
 }
 
@@ -196,7 +212,7 @@ pub fn size(image: &[u8], chunk: Chunk) -> SizeAnswer
     ensures { λ r. ⌜ saidSize r ≡ sizeSaid (now (image .entry)) ⌝ }
 {
     if image_within(image) {
-        let units = word_of(image, chunk, 124);
+        let units = word_of(image, chunk, MEMORY_SIZE);
         SizeAnswer::Bytes(((units as u32) + 1) * 128)
     } else {
         SizeAnswer::No(Refusal::BadArgument)
@@ -220,7 +236,7 @@ pub fn general(image: &[u8], chunk: Chunk) -> GeneralAnswer
 pub fn find_general(image: &[u8], chunk: Chunk) -> GeneralFound
     ensures { λ r. ⌜ saidFound r ≡ generalFound (now (image .entry)) ⌝ }
 {
-    match category(image, chunk, 30) {
+    match category(image, chunk, GENERAL) {
         Found::At(g) => general_in(image, chunk, g.byte_pos as u32, g.end as u32),
         Found::Absent => GeneralFound::Absent,
         Found::No(x) => GeneralFound::No(x),
@@ -232,9 +248,10 @@ fn general_in(image: &[u8], chunk: Chunk, at: u32, end: u32) -> GeneralFound
     requires { ⌜ at ≤ 1000000000 ⌝ }
     ensures { λ r. ⌜ saidFound r ≡ generalIn (now (image .entry)) at end ⌝ }
 {
-    if at + 18 <= end {
-        if admitted(image, chunk, at) {
-            GeneralFound::Is(general_at(image, chunk, at))
+    if at + GENERAL_BYTES <= end {
+        let general = general_at(image, chunk, at);
+        if admitted(general) {
+            GeneralFound::Is(general)
         } else {
             GeneralFound::No(Refusal::Decode)
         }
@@ -243,13 +260,15 @@ fn general_in(image: &[u8], chunk: Chunk, at: u32, end: u32) -> GeneralFound
     }
 }
 
-fn admitted(image: &[u8], chunk: Chunk, at: u32) -> bool
-    requires { ⌜ at ≤ 1000000000 ⌝ }
-    ensures { λ r. ⌜ r ≡ generalAdmits (now (image .entry)) at ⌝ }
+// No undefined bit stands in the CoE details, nor in the flags.
+fn admitted(general: SiiGeneral) -> bool
+    ensures { λ r. ⌜ r ≡ generalAdmits general ⌝ }
 {
-    let coe = byte_of(image, chunk, at + 5);
-    let flags = byte_of(image, chunk, at + 11);
-    if coe < 64 { flags < 32 } else { false }
+    if general.coe_details < 64 {
+        general.flags < 32
+    } else {
+        false
+    }
 }
 
 fn port_status(n: u16) -> u8

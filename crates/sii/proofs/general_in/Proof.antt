@@ -8,19 +8,19 @@ use Rattle.sii.proofs.general_in.Tie as tie
 add-if1 : tie.Need-add-if1
 add-if1 c = search needs
 
-admitted-requires : tie.Need-admitted-requires
-admitted-requires c κs = search needs
-
 general-at-requires : tie.Need-general-at-requires
 general-at-requires c κs = search needs
 
+admitted-requires : tie.Need-admitted-requires
+admitted-requires c κs = search needs
+
 returns : tie.Need-returns
 unfolding generalIn
-returns c = simp (le-leb _ _ (c .before .before .before .if1 .taken), ← c .before .before .admitted .ensures, c .before .if2 .taken, c .general-at .ensures)
+returns c = simp (le-leb _ _ (c .before .before .before .if1 .taken), ← c .before .before .general-at .ensures, ← c .before .admitted .ensures, c .if2 .taken)
 
 returns-2 : tie.Need-returns-2
 unfolding generalIn
-returns-2 c = simp (le-leb _ _ (c .before .before .if1 .taken), ← c .before .admitted .ensures, c .if2 .left)
+returns-2 c = simp (le-leb _ _ (c .before .before .before .if1 .taken), ← c .before .before .general-at .ensures, ← c .before .admitted .ensures, c .if2 .left)
 
 returns-3 : tie.Need-returns-3
 unfolding generalIn
@@ -28,4 +28,4 @@ returns-3 c = simp (lt-leb _ _ (c .if1 .left))
 
 pub general-in-spec : {M : Type 1} → statement M
 general-in-spec =
-    tie.close (tie.spec add-if1 admitted-requires general-at-requires returns returns-2 returns-3)
+    tie.close (tie.spec add-if1 general-at-requires admitted-requires returns returns-2 returns-3)

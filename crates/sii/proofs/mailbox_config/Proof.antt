@@ -1,4 +1,4 @@
--- `mailbox_config` tests the protocols' undefined bits before it reads.
+-- `mailbox_config` tests the protocols' undefined bits.
 use borrow.Author.Tests.{lt-ltb, le-ltb}
 use Rattle.sii.specs.Fixed.{lent, mailboxSaid}
 use borrow.Author.Needs.{needs}
@@ -8,19 +8,16 @@ use Rattle.sii.proofs.mailbox_config.Tie as tie
 image-within-requires : tie.Need-image-within-requires
 image-within-requires c κs = search needs
 
-byte-of-requires : tie.Need-byte-of-requires
-byte-of-requires c κs = search needs
-
 mailbox-in-requires : tie.Need-mailbox-in-requires
 mailbox-in-requires c κs = search needs
 
 returns : tie.Need-returns
 unfolding lent mailboxSaid
-returns c = simp (← c .before .before .before .before .image-within .ensures, c .before .before .before .if1 .taken, ← c .before .before .byte-of .ensures, lt-ltb _ _ (c .before .if2 .taken), c .mailbox-in .ensures)
+returns c = simp (← c .before .before .before .before .image-within .ensures, c .before .before .before .if1 .taken, ← c .before .before .mailbox-in .ensures, lt-ltb _ _ (c .if2 .taken))
 
 returns-2 : tie.Need-returns-2
 unfolding lent mailboxSaid
-returns-2 c = simp (← c .before .before .before .image-within .ensures, c .before .before .if1 .taken, ← c .before .byte-of .ensures, le-ltb _ _ (c .if2 .left))
+returns-2 c = simp (← c .before .before .before .before .image-within .ensures, c .before .before .before .if1 .taken, ← c .before .before .mailbox-in .ensures, le-ltb _ _ (c .if2 .left))
 
 returns-3 : tie.Need-returns-3
 unfolding lent mailboxSaid
@@ -28,11 +25,4 @@ returns-3 c = simp (← c .before .image-within .ensures, c .if1 .left)
 
 pub mailbox-config-spec : {M : Type 1} → statement M
 mailbox-config-spec =
-    tie.close
-    (tie.spec
-    image-within-requires
-    byte-of-requires
-    mailbox-in-requires
-    returns
-    returns-2
-    returns-3)
+    tie.close (tie.spec image-within-requires mailbox-in-requires returns returns-2 returns-3)

@@ -15,6 +15,9 @@ cast-t5 c = search needs
 cast-t8 : tie.Need-cast-t8
 cast-t8 c = search needs
 
+cast-lay : tie.Need-cast-lay
+cast-lay c = search needs
+
 slice-aggregate-lay : tie.Need-slice-aggregate-lay
 slice-aggregate-lay c = search needs
 
@@ -33,4 +36,5 @@ returns c =
 
 pub put-alias-spec : {M : Type 1} → statement M
 put-alias-spec =
-    tie.close (tie.spec cast-t5 cast-t8 slice-aggregate-lay lay-requires same-length returns)
+    tie.close
+    (tie.spec cast-t5 cast-t8 cast-lay slice-aggregate-lay lay-requires same-length returns)
