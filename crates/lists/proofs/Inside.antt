@@ -6,14 +6,17 @@ use mathlib.Core.Path.{_≡_, refl, sym, ap, _∙_}
 use mathlib.Core.List.{List, [], _∷_}
 use lib.ListN.{getD}
 use Rattle.refusal.specs.Said.{Said, gives, absent, refuses}
+use Rattle.wire.specs.Bytes.{Bytes}
 use Rattle.category.specs.Numbers as numbers
 use Rattle.category.specs.Category.{categorySaid}
 use Rattle.lists.specs.Records.{Item, one, none, bad, Listed, holds, no, front, begin, records, inCategory}
-use Rattle.lists.specs.Inside.{Inside, ends, stands, SameIn, Moves, Local}
+use Rattle.lists.specs.Inside.{Inside, ends, stands, Each, nil, cons, SameIn, Moves, Local}
 use Rattle.lists.specs.SyncManagers.{smAt, smMost, smsOf}
 use Rattle.lists.specs.Fmmus.{usageAt, exAt, fmmuMost, usagesOf, exOf}
-use Rattle.lists.specs.Pdos.{pdoAt, pdoMost, pdosOf}
-use Rattle.lists.proofs.Reading.{sm-moves, sm-local, usage-moves, usage-local, ex-moves, ex-local, pdo-moves, pdo-local}
+use Rattle.lists.specs.Pdos.{bitLenBelow, pdoAt, pdoMost, pdosOf}
+use Rattle.lists.specs.declared.Pdo.{Pdo}
+use Rattle.lists.specs.declared.SyncManager.{SyncManager}
+use Rattle.lists.proofs.Reading.{sm-moves, sm-local, usage-moves, usage-local, ex-moves, ex-local, pdo-moves, pdo-local, pdo-fits}
 
 -- ---- records, of any kind
 
@@ -86,7 +89,7 @@ all p end = omega arith
 sixteen : (p end : ℕ) → min end (p + fmmuMost) ≤ end
 sixteen p end = omega arith
 
-pub sms-inside : (image : List ℕ) (p end : ℕ) (l : List _) → Holds image numbers.syncManagers p end → smsOf image ≡ holds l → Inside (smAt image end) end p l
+pub sms-inside : (image : List ℕ) (p end : ℕ) (l : List SyncManager) → Holds image numbers.syncManagers p end → smsOf image ≡ holds l → Inside (smAt image end) end p l
 unfolding smsOf
 sms-inside = list-inside smAt sm-moves sm-local smMost numbers.syncManagers (λ p end. end) all
 
@@ -102,18 +105,35 @@ pub usages-local : (s t : List ℕ) (p end : ℕ) → Holds s numbers.fmmu p end
 unfolding usagesOf
 usages-local = list-local usageAt usage-moves usage-local fmmuMost numbers.fmmu (λ p end. min end (p + fmmuMost)) sixteen
 
-pub ex-inside : (image : List ℕ) (p end : ℕ) (l : List ℕ) → Holds image numbers.fmmuExtended p end → exOf image ≡ holds l → Inside (exAt image end) end p l
+pub exes-inside : (image : List ℕ) (p end : ℕ) (l : List ℕ) → Holds image numbers.fmmuExtended p end → exOf image ≡ holds l → Inside (exAt image end) end p l
 unfolding exOf
-ex-inside = list-inside exAt ex-moves ex-local fmmuMost numbers.fmmuExtended (λ p end. end) all
+exes-inside = list-inside exAt ex-moves ex-local fmmuMost numbers.fmmuExtended (λ p end. end) all
 
 pub exes-local : (s t : List ℕ) (p end : ℕ) → Holds s numbers.fmmuExtended p end → Holds t numbers.fmmuExtended p end → SameIn p end s t → exOf s ≡ exOf t
 unfolding exOf
 exes-local = list-local exAt ex-moves ex-local fmmuMost numbers.fmmuExtended (λ p end. end) all
 
-pub pdos-inside : (number : ℕ) (image : List ℕ) (p end : ℕ) (l : List _) → Holds image number p end → pdosOf image number ≡ holds l → Inside (pdoAt image end) end p l
+pub pdos-inside : (number : ℕ) (image : List ℕ) (p end : ℕ) (l : List Pdo) → Holds image number p end → pdosOf image number ≡ holds l → Inside (pdoAt image end) end p l
 unfolding pdosOf
 pdos-inside number = list-inside pdoAt pdo-moves pdo-local pdoMost number (λ p end. end) all
 
 pub pdos-local : (number : ℕ) (s t : List ℕ) (p end : ℕ) → Holds s number p end → Holds t number p end → SameIn p end s t → pdosOf s number ≡ pdosOf t number
 unfolding pdosOf
 pdos-local number = list-local pdoAt pdo-moves pdo-local pdoMost number (λ p end. end) all
+
+-- ---- the bit lengths of a list of PDOs
+
+each : {R : Type 0} (P : R → Type 0) (item : ℕ → Item R) (end p : ℕ) (l : List R) → ((p : ℕ) (r : R) (q : ℕ) → one r q ≡ item p → P r) → Inside item end p l → Each P l
+each P item end p _ h (ends _) = nil
+each P item end p _ h (stands _ q r l e a b i) = cons r l (h p r q (sym e)) (each P item end q l h i)
+
+pub pdos-fit : (image : List ℕ) → Bytes image → (number : ℕ) (l : List Pdo) → pdosOf image number ≡ holds l → Each (λ r. r .«bit_len» < bitLenBelow) l
+unfolding pdosOf inCategory
+pdos-fit image b number l e = go (categorySaid image number) e
+  where
+    go : (x : Said) → inCategory x (λ p end. records (pdoAt image end) pdoMost p) ≡ holds l → Each (λ r. r .«bit_len» < bitLenBelow) l
+    go (gives v) e =
+        each _ (pdoAt image (getD v 1 0)) (getD v 1 0) (getD v 0 0) l (pdo-fits image b (getD v 1 0))
+        (records-inside (pdoAt image (getD v 1 0)) (getD v 1 0) (pdo-moves image (getD v 1 0)) pdoMost (getD v 0 0) l e)
+    go absent e = let z : l ≡ [] = cc in rw z nil
+    go (refuses n v) e = let z : _≡_ {A = ℕ} 0 1 = cc in absurd (omega arith)

@@ -15,17 +15,18 @@ use Rattle.lists.specs.Records.{Item, one, none, bad}
 use Rattle.lists.specs.Inside.{SameIn, Moves, Local}
 use Rattle.lists.specs.SyncManagers.{smOf, smAdmits, smAt}
 use Rattle.lists.specs.Fmmus.{usageAdmits, usageOf, usageAt, exAt, fmmuAt}
-use Rattle.lists.specs.Pdos.{entriesOf, entryAt, pdoEnd, sumTo, entryBits, pdoOf, pdoAt}
+use Rattle.lists.specs.Pdos.{entriesOf, entryAt, pdoEnd, sumTo, entryBits, pdoOf, pdoAt, bitLenBelow}
+use Rattle.lists.specs.declared.Pdo.{Pdo}
 use Rattle.lists.specs.declared.FmmuKind.{FmmuKind}
 use Rattle.lists.specs.declared.FmmuKind.the-variants as kind
 
 -- ---- where a record ends
 
 -- a record stands at p: both tests held, and the next starts where the definition says
-ends-in : {R : Type 0} (t u : Bool) (r r′ : R) (q q′ : ℕ) → one r q ≡ pick t (pick u (one r′ q′) bad) none → (t ≡ true) × (u ≡ true) × (q ≡ q′)
-ends-in true true r r′ q q′ p = (refl, refl, cc)
-ends-in true false r r′ q q′ p = (refl, cc, cc)
-ends-in false u r r′ q q′ p = (cc, cc, cc)
+ends-in : {R : Type 0} (t u : Bool) (r r′ : R) (q q′ : ℕ) → one r q ≡ pick t (pick u (one r′ q′) bad) none → (t ≡ true) × (u ≡ true) × (q ≡ q′) × (r ≡ r′)
+ends-in true true r r′ q q′ p = (refl, refl, cc, cc)
+ends-in true false r r′ q q′ p = (refl, cc, cc, cc)
+ends-in false u r r′ q q′ p = (cc, cc, cc, cc)
 
 pub sm-moves : Moves smAt
 unfolding smAt
@@ -166,6 +167,9 @@ unfolding sumTo entryBits Bytes
 bits-fit image b p zero = omega arith
 bits-fit image b p (suc n) = omega (arith, bits-fit image b p n, b (p + 8 + 8 * n + 5))
 
-pub pdo-bits-fit : (image : List ℕ) → Bytes image → (p : ℕ) → pdoOf image p .«bit_len» < 65536
-unfolding pdoOf entriesOf Bytes
-pdo-bits-fit image b p = omega (arith, bits-fit image b p (byteAt image (p + 2)), b (p + 2))
+-- so does that of a PDO which stands at a position
+pub pdo-fits : (image : List ℕ) → Bytes image → (end p : ℕ) (r : Pdo) (q : ℕ) → one r q ≡ pdoAt image end p → r .«bit_len» < bitLenBelow
+unfolding pdoAt pdoOf entriesOf Bytes
+pdo-fits image b end p r q e =
+    let f = ends-in (leb (p + 8) end) (leb (pdoEnd image p) end) r (pdoOf image p) q (pdoEnd image p) e in
+    rw (f .3) (omega (arith, bits-fit image b p (byteAt image (p + 2)), b (p + 2)))

@@ -13,6 +13,11 @@ pub data Inside {R : Type 0} (item : ℕ → Item R) (end : ℕ) : ℕ → List 
   ends : (p : ℕ) → Inside item end p []
   stands : (p q : ℕ) (r : R) (l : List R) → item p ≡ one r q → p < q → q ≤ end → Inside item end q l → Inside item end p (r ∷ l)
 
+-- each record of a list has a property
+pub data Each {R : Type 0} (P : R → Type 0) : List R → Type 0 where
+  nil : Each P []
+  cons : (r : R) (l : List R) → P r → Each P l → Each P (r ∷ l)
+
 -- two images that hold the same bytes from p to end, whatever stands outside
 pub record SameIn (p end : ℕ) (s t : List ℕ) : Type 0 where
   pub bytes : (i : ℕ) → p ≤ i → i < end → byteAt s i ≡ byteAt t i

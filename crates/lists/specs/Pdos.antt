@@ -13,6 +13,10 @@ use Rattle.lists.specs.declared.Pdo.{Pdo}
 abbrev pub pdoMost : ℕ
 pdoMost = 64
 
+-- a PDO's bit length has 16 bits
+abbrev pub bitLenBelow : ℕ
+bitLenBelow = 65536
+
 -- how many entries the PDO at p has; where entry k stands; and where the PDO ends
 unfoldable pub entriesOf : List ℕ → ℕ → ℕ
 entriesOf image p = field image p nEntry

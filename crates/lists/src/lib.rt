@@ -262,13 +262,8 @@ fn usages_in(image: &[u8], chunk: Chunk, start: u32, end: u32) -> FmmuList
     requires { ⌜ (start ≤ 1000000) × (end ≤ 1000000) ⌝ }
     ensures { λ r. ⌜ backFmmus r ≡ back 0 fmmuMost (records (usageAt (now (image .entry)) (min end (start + fmmuMost))) fmmuMost start) ⌝ }
 {
-    fmmus_in(
-        image,
-        chunk,
-        FmmuKind::Usage,
-        start,
-        lesser(end, start + 16),
-    )
+    let stop = lesser(end, start + 16);
+    fmmus_in(image, chunk, FmmuKind::Usage, start, stop)
 }
 
 // The smaller of two.
