@@ -2,7 +2,7 @@
 
 use crate::eeprom::device_provider::NOT_WRITABLE;
 use crate::error::{EepromError, Error, PduError};
-use crate::lines::{listed, shown};
+use lines::{Unreadable, listed, shown};
 use std::cell::Cell;
 use std::future::Future;
 use std::panic::{AssertUnwindSafe, catch_unwind};
@@ -19,6 +19,12 @@ pub enum Off {
     Panics,
     /// The Rust has no such call, or no run of it stands in such a state.
     None,
+}
+
+impl From<Unreadable> for Off {
+    fn from(_: Unreadable) -> Self {
+        Off::Unreadable
+    }
 }
 
 impl Off {

@@ -5,9 +5,9 @@
 
 use crate::answer::{Off, Reply, ask, gives, record, refuses, slice};
 use crate::error::Error;
-use crate::lines::Words;
 use crate::pdu_loop::{CreatedFrame, PduTx};
 use crate::{Command, Reads, Writes};
+use lines::Words;
 
 const OVERHEAD: usize = CreatedFrame::PDU_OVERHEAD_BYTES;
 
@@ -47,14 +47,13 @@ impl State {
         Ok(())
     }
 
-    /// The original derives `Debug`; its box, our shim, shows as the used bytes.
-    fn of(frame: &CreatedFrame) -> [u32; 3] {
+    /// The original derives `Debug`; its box, our shim, shows as the used bytes. Before the first push the Rust has no last PDU: LAST comes back as it went in.
+    fn after(self, frame: &CreatedFrame) -> [u32; 3] {
         let shown = format!("{frame:?}");
         let numbers = shown.split(|c: char| !c.is_ascii_digit()).filter(|n| !n.is_empty()).map(|n| n.parse().unwrap());
         match numbers.collect::<Vec<u32>>()[..] {
             [used, count, last] => [used, count, last],
-            // Before the first push: `last_header_location: None`.
-            [used, count] => [used, count, 0],
+            [used, count] => [used, count, self.last as u32],
             _ => unreachable!("{shown}"),
         }
     }
@@ -86,7 +85,8 @@ pub fn open(mut words: Words) -> Reply {
     let bench = PduTx::bench(area.len());
     bench.fill(&area);
     let frame = ask(|| bench.open())?;
-    Ok(gives(&[]) + &record(&State::of(&frame)) + &slice(&bench.area()))
+    let state = State { used: 0, count: 0, last: 0 };
+    Ok(gives(&[]) + &record(&state.after(&frame)) + &slice(&bench.area()))
 }
 
 /// What the two pushes take before their data: `AREA S COMMAND ADDRESS`.
@@ -99,7 +99,12 @@ struct Push {
 
 impl Push {
     fn read(words: &mut Words) -> Result<Self, Off> {
-        Ok(Self { area: words.bytes()?, state: State::read(words)?, index: words.u8()?, command: (words.u8()?, words.u32()?) })
+        Ok(Self {
+            area: words.bytes()?,
+            state: State::read(words)?,
+            index: words.u8()?,
+            command: (words.u8()?, words.u32()?),
+        })
     }
 
     /// The answer of a push in this state, with the state and the area afterwards.
@@ -111,7 +116,7 @@ impl Push {
         bench.fill(&self.area);
         bench.set_index(self.index);
         let answer = ask(|| push(&mut frame, command))?.unwrap_or_else(refuses);
-        let [used, count, last] = State::of(&frame);
+        let [used, count, last] = self.state.after(&frame);
         Ok(answer + &record(&[used, count, last, bench.index().into()]) + &slice(&bench.area()))
     }
 }

@@ -9,10 +9,10 @@ include!(concat!(env!("OUT_DIR"), "/ethercrab/lib.rs"));
 
 mod answer;
 mod frames;
-mod lines;
 mod ports;
 mod range;
 mod sii;
+mod strings;
 
 use answer::{Off, Reply};
 use lines::Words;
@@ -57,9 +57,9 @@ fn answer(mut words: Words) -> Reply {
         b"fmmus" => sii::fmmus(words),
         b"fmmuex" => sii::fmmu_mappings(words),
         b"pdos" => sii::pdos(words),
-        b"string" => sii::string(words),
-        b"name" => sii::name(words),
-        b"desc" => sii::description(words),
+        b"string" => strings::string(words),
+        b"name" => strings::name(words),
+        b"desc" => strings::description(words),
         b"entry" => ports::entry(words),
         b"last" => ports::last(words),
         b"topology" => ports::topology(words),

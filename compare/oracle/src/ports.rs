@@ -2,14 +2,14 @@
 
 use crate::SubDevice;
 use crate::answer::{Off, Reply, ask, gives, gives_some, record, slice};
-use crate::lines::Words;
 use crate::subdevice::ports::{Port, Ports, Topology};
+use lines::Words;
 use std::num::NonZeroU16;
 
 /// `ACTIVE TIME LINK` for each place.
 fn read(words: &mut Words) -> Result<Ports, Off> {
-    let mut read = || Ok((words.flag()?, words.u32()?, NonZeroU16::new(words.u16()?)));
-    let places = [read()?, read()?, read()?, read()?];
+    let mut place = || Ok::<_, Off>((words.flag()?, words.u32()?, NonZeroU16::new(words.u16()?)));
+    let places = [place()?, place()?, place()?, place()?];
     let [a, b, c, d] = places.map(|(active, ..)| active);
     let mut ports = Ports::new(a, b, c, d);
     for (port, (_, time, link)) in ports.0.iter_mut().zip(places) {
@@ -26,7 +26,9 @@ fn only_ports(mut words: Words) -> Result<Ports, Off> {
 }
 
 fn afterwards(ports: &Ports) -> String {
-    let places = ports.0.map(|port| [port.active.into(), port.dc_receive_time, port.downstream_to.map_or(0, |link| link.get().into())]);
+    let places = ports
+        .0
+        .map(|port| [port.active.into(), port.dc_receive_time, port.downstream_to.map_or(0, |link| link.get().into())]);
     record(places.as_flattened())
 }
 

@@ -1,15 +1,24 @@
 //! `EepromRange`, of eeprom/mod.rs, and `start_at`, of subdevice/eeprom.rs.
 
-use crate::answer::{Off, Reply, ask, ask_async, gives, record, refuses, said, slice};
+use crate::answer::{Off, Reply, ask, ask_async, gives, record, said, slice};
 use crate::eeprom::EepromRange;
 use crate::eeprom::device_provider::{Image, pos_end, range_at};
 use crate::error::Error;
-use crate::lines::Words;
 use crate::subdevice::eeprom::SubDeviceEeprom;
 use embedded_io_async::{Read, Write};
+use lines::Words;
 
 /// For calls that read no image, and for writes, which have no chunks.
 const ANY_CHUNK: usize = 4;
+
+/// `IMAGE CHUNK`
+pub fn image(words: &mut Words) -> Result<Image, Off> {
+    let bytes = words.bytes()?;
+    match words.u16()? {
+        chunk @ (4 | 8) => Ok(Image::new(bytes, chunk.into())),
+        _ => Err(Off::Unreadable),
+    }
+}
 
 /// `POS END`. Every end that the Rust makes is twice a number of words, so an odd one has no answer.
 struct Record(u16, u16);
@@ -53,7 +62,7 @@ pub fn skip(mut words: Words) -> Reply {
 }
 
 pub fn byte(mut words: Words) -> Reply {
-    let (image, at) = (words.image()?, Record::read(&mut words)?);
+    let (image, at) = (image(&mut words)?, Record::read(&mut words)?);
     words.end()?;
     let mut range = at.over(image)?;
     let answer = ask_async(|| range.read_byte())?;
@@ -61,7 +70,7 @@ pub fn byte(mut words: Words) -> Reply {
 }
 
 pub fn read(mut words: Words) -> Reply {
-    let (image, at, mut buf) = (words.image()?, Record::read(&mut words)?, words.bytes()?);
+    let (image, at, mut buf) = (image(&mut words)?, Record::read(&mut words)?, words.bytes()?);
     words.end()?;
     let mut range = at.over(image)?;
     let answer = ask_async(|| range.read(&mut buf))?;
@@ -69,7 +78,7 @@ pub fn read(mut words: Words) -> Reply {
 }
 
 pub fn exact(mut words: Words) -> Reply {
-    let (image, at, mut buf) = (words.image()?, Record::read(&mut words)?, words.bytes()?);
+    let (image, at, mut buf) = (image(&mut words)?, Record::read(&mut words)?, words.bytes()?);
     words.end()?;
     let mut range = at.over(image)?;
     let answer = ask_async(|| range.read_exact(&mut buf))?;
@@ -79,8 +88,8 @@ pub fn exact(mut words: Words) -> Reply {
 pub fn write(mut words: Words) -> Reply {
     let (bytes, at, data) = (words.bytes()?, Record::read(&mut words)?, words.bytes()?);
     words.end()?;
-    let image = Image::new(bytes, ANY_CHUNK);
-    let mut range = at.over(image.clone())?;
+    let written = Image::new(bytes, ANY_CHUNK);
+    let mut range = at.over(written.clone())?;
     let answer = ask_async(|| range.write(&data))?;
-    Ok(said(answer, |written| vec![written as u32]) + &afterwards(&range) + &slice(&image.bytes.borrow()))
+    Ok(said(answer, |count| vec![count as u32]) + &afterwards(&range) + &slice(&written.bytes.borrow()))
 }

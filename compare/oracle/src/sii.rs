@@ -4,16 +4,16 @@ use crate::answer::{Off, Reply, ask, ask_async, gives, refuses, said, slice};
 use crate::eeprom::device_provider::{Image, pos_end};
 use crate::eeprom::types::CategoryType;
 use crate::eeprom::{EepromRange, STATION_ALIAS_CRC};
-use crate::error::Error;
-use crate::lines::Words;
+use crate::range::image;
 use crate::subdevice::eeprom::{CategoryIterator, SubDeviceEeprom};
-use std::pin::Pin;
+use lines::Words;
 
-type Sii = SubDeviceEeprom<Image>;
+/// What the Rust reads an image through.
+pub type Sii = SubDeviceEeprom<Image>;
 
 /// `IMAGE CHUNK`, and no more.
 fn only_image(mut words: Words) -> Result<Sii, Off> {
-    let image = words.image()?;
+    let image = image(&mut words)?;
     words.end()?;
     Ok(Sii::new(image))
 }
@@ -27,16 +27,12 @@ pub fn crc(mut words: Words) -> Reply {
 
 /// A number without a name in the Rust can't be sought there.
 fn category_type(number: u16) -> Result<CategoryType, Off> {
-    use CategoryType::*;
-    let named = [
-        Nop, DeviceSpecific, Strings, DataTypes, General, Fmmu, SyncManager, FmmuExtended, SyncUnit, TxPdo, RxPdo, DistributedClock, End,
-    ];
-    named.into_iter().find(|named| *named as u16 == number).ok_or(Off::None)
+    Some(CategoryType::from(number)).filter(|named| *named as u16 == number).ok_or(Off::None)
 }
 
 /// The search itself is private, so it is asked through `items`, which makes a list over the range found, or over the range 0, 0. No category starts there.
 pub fn category(mut words: Words) -> Reply {
-    let (image, number) = (words.image()?, words.u16()?);
+    let (image, number) = (image(&mut words)?, words.u16()?);
     words.end()?;
     let (sii, sought) = (Sii::new(image), category_type(number)?);
     let answer = ask_async(|| sii.items::<u8>(sought))?;
@@ -152,7 +148,7 @@ pub fn fmmu_mappings(words: Words) -> Reply {
 }
 
 pub fn pdos(mut words: Words) -> Reply {
-    let (image, kind) = (words.image()?, words.u16()?);
+    let (image, kind) = (image(&mut words)?, words.u16()?);
     words.end()?;
     let sii = Sii::new(image);
     let answer = match kind {
@@ -163,72 +159,4 @@ pub fn pdos(mut words: Words) -> Reply {
     Ok(said(answer, |pdos| {
         list(&pdos, |pdo| [pdo.index.into(), pdo.num_entries.into(), pdo.sync_manager.into(), pdo.bit_len.into()])
     }))
-}
-
-// Strings. The Rust's room is a type, one for each size, and its answer a string of its own; the oracle lays that over the lent room. A stored string has at
-// most 255 bytes, so a larger room is asked as one of 255.
-
-type Found<'a> = Pin<Box<dyn Future<Output = Result<Option<Vec<u8>>, Error>> + 'a>>;
-type Search = fn(&Sii, u8) -> Found;
-
-const ROOM_MOST: usize = 255;
-
-fn find_string<const N: usize>(sii: &Sii, index: u8) -> Found {
-    Box::pin(async move { Ok(bytes(sii.find_string::<N>(index).await?)) })
-}
-
-fn device_name<const N: usize>(sii: &Sii, _: u8) -> Found {
-    Box::pin(async move { Ok(bytes(sii.device_name::<N>().await?)) })
-}
-
-fn device_description<const N: usize>(sii: &Sii, _: u8) -> Found {
-    Box::pin(async move { Ok(bytes(sii.device_description::<N>().await?)) })
-}
-
-fn bytes<const N: usize>(string: Option<heapless::String<N>>) -> Option<Vec<u8>> {
-    string.map(|string| string.as_str().as_bytes().to_vec())
-}
-
-/// A search for each room from 0 to 255, by sixteens.
-macro_rules! rooms {
-    ($search:ident) => { rooms!($search; 0 1 2 3 4 5 6 7 8 9 10 11 12 13 14 15) };
-    ($search:ident; $($row:literal)*) => { [$(rooms!(row $search $row)),*] };
-    (row $search:ident $row:literal) => { rooms!(of $search $row; 0 1 2 3 4 5 6 7 8 9 10 11 12 13 14 15) };
-    (of $search:ident $row:literal; $($n:literal)*) => { [$($search::<{ 16 * $row + $n }>),*] };
-}
-
-static STRINGS: [[Search; 16]; 16] = rooms!(find_string);
-static NAMES: [[Search; 16]; 16] = rooms!(device_name);
-static DESCRIPTIONS: [[Search; 16]; 16] = rooms!(device_description);
-
-pub fn string(mut words: Words) -> Reply {
-    let (image, index, room) = (words.image()?, words.u8()?, words.bytes()?);
-    words.end()?;
-    searched(&STRINGS, image, index, room)
-}
-
-pub fn name(mut words: Words) -> Reply {
-    let (image, room) = (words.image()?, words.bytes()?);
-    words.end()?;
-    searched(&NAMES, image, 0, room)
-}
-
-pub fn description(mut words: Words) -> Reply {
-    let (image, room) = (words.image()?, words.bytes()?);
-    words.end()?;
-    searched(&DESCRIPTIONS, image, 0, room)
-}
-
-fn searched(searches: &[[Search; 16]; 16], image: Image, index: u8, mut room: Vec<u8>) -> Reply {
-    let asked = room.len().min(ROOM_MOST);
-    let (search, sii) = (searches[asked / 16][asked % 16], Sii::new(image));
-    let answer = match ask_async(|| search(&sii, index))? {
-        Ok(Some(string)) => {
-            room[..string.len()].copy_from_slice(&string);
-            gives(&[string.len() as u32])
-        }
-        Ok(None) => "absent".into(),
-        Err(error) => refuses(error),
-    };
-    Ok(answer + &slice(&room))
 }

@@ -58,7 +58,9 @@ fn of_struct(item: &Item) -> (usize, String, String) {
         at += width + after;
     }
     assert_eq!(at, bits, "the fields of {name} do not add up to its width");
-    let read = format!("let buf = buf.get(..{bytes}).ok_or(::ethercrab_wire::WireError::ReadBufferTooShort)?; Ok(Self {{ {read} }})");
+    let read = format!(
+        "let buf = buf.get(..{bytes}).ok_or(::ethercrab_wire::WireError::ReadBufferTooShort)?; Ok(Self {{ {read} }})"
+    );
     (bytes, reading(name, &read), writing(name, bytes, &write))
 }
 
@@ -69,7 +71,8 @@ fn of_enum(item: &Item) -> (usize, String, String) {
     let bytes = item.marks.width.map_or(if repr == "u8" { 1 } else { 2 }, |bits| bits.div_ceil(8));
     let mut arms = String::new();
     for (marks, variant, value) in &item.parts {
-        let values: Vec<&str> = [value.as_str()].into_iter().chain(marks.alternatives.iter().map(String::as_str)).collect();
+        let values: Vec<&str> =
+            [value.as_str()].into_iter().chain(marks.alternatives.iter().map(String::as_str)).collect();
         arms += &format!("{} => Self::{variant},", values.join(" | "));
     }
     let raw = format!("<{repr} as ::ethercrab_wire::EtherCrabWireRead>::unpack_from_slice(buf)?");

@@ -65,7 +65,8 @@ impl Bench {
     }
 
     pub fn open(&self) -> CreatedFrame<'_> {
-        CreatedFrame::claim_created(self.element(), 0, &self.pdu_idx, LEAD + self.area).expect("a frame that nobody holds")
+        CreatedFrame::claim_created(self.element(), 0, &self.pdu_idx, LEAD + self.area)
+            .expect("a frame that nobody holds")
     }
 
     pub fn index(&self) -> u8 {
