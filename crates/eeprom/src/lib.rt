@@ -11,7 +11,7 @@ ghost use Prim.Native.Nat.{_+_, _-_, _*_, _%_, _≤_, _<_};
 ghost use lib.ListN.{length, getD};
 ghost use Rattle.wire.specs.Bytes.{byteAt, le16, le32, span, filled, overlay};
 ghost use Rattle.eeprom.specs.Image.{endMost, within, fine, widthOf, chunkOf};
-ghost use Rattle.eeprom.specs.Range.{Wrote, newSaid, startSaid, byteIn, byteSaid, skipSaid, readSaid, readBuf, exactSaid, exactBuf, words, wrote, writeSaid, writeImage};
+ghost use Rattle.eeprom.specs.Range.{newSaid, startSaid, byteIn, byteSaid, skipSaid, readSaid, readBuf, exactSaid, exactBuf, words, wrote, writeSaid, writeImage};
 ghost use Rattle.eeprom.specs.Answers.{saidRange, saidByte, saidReading, saidExact, saidWriting};
 
 // The width of a chunk.
