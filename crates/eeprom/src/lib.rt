@@ -270,10 +270,11 @@ fn byte_in(image: &[u8], chunk: Chunk, pos: Pos, end: Pos) -> ByteAnswer
     ensures { λ r. ⌜ saidByte r ≡ byteIn (now (image .entry)) pos end ⌝ }
 {
     if (pos as u32) < END_MOST {
+        let next = pos + 1;
         ByteAnswer::Byte(
             byte_of(image, chunk, pos as u32),
             Range {
-                byte_pos: pos + 1,
+                byte_pos: next,
                 end,
             },
         )
