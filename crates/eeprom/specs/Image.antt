@@ -1,0 +1,34 @@
+-- The lent image and its chunks: document 01, 'The EEPROM range', first point. Definitions only.
+use Prim.Native.Nat.{ℕ, _*_, _%_}
+use mathlib.Core.List.{List}
+use mathlib.Core.Bool.{Bool, _&&_}
+use lib.ListN.{length, replicate}
+use lib.Dec.{leb, eqb}
+use Rattle.wire.specs.Bytes.{filled}
+use Rattle.eeprom.specs.declared.Chunk.{Chunk}
+use Rattle.eeprom.specs.declared.Chunk.the-variants as chunk
+
+-- the most bytes that an image has
+abbrev pub imageMost : ℕ
+imageMost = 65536
+
+-- the largest end of a range, and the largest position
+abbrev pub endMost : ℕ
+endMost = 65535
+
+-- the image has no more bytes than that
+unfoldable pub within : List ℕ → Bool
+within image = leb (length image) imageMost
+
+-- .. and the end is even: the bounds of every call on a range
+unfoldable pub fine : List ℕ → ℕ → Bool
+fine image end = within image && eqb (end % 2) 0
+
+-- how many bytes a chunk has
+abbrev pub widthOf : Chunk → ℕ
+widthOf chunk.Four = 4
+widthOf chunk.Eight = 8
+
+-- a chunk of n bytes from word w on, at the front of eight zeros
+unfoldable pub chunkOf : List ℕ → ℕ → ℕ → List ℕ
+chunkOf image w n = filled image (2 * w) n (replicate 8 0)
