@@ -18,8 +18,8 @@ use Rattle.frame_reader.specs.Answers.{readSaid, pdusOf}
 abbrev pub says : List ℕ → Said
 says s = readSaid (readOf s)
 
-abbrev pub lists : List ℕ → List Pdu → Type 0
-lists s ps = (pdusOf (readOf s) ≡ shownAll 2 ps) × (map (payloadOf s) (pdusOf (readOf s)) ≡ map (λ (p : Pdu). p .payload) ps)
+abbrev pub Lists : List ℕ → List Pdu → Type 0
+Lists s ps = (pdusOf (readOf s) ≡ shownAll 2 ps) × (map (payloadOf s) (pdusOf (readOf s)) ≡ map (λ (p : Pdu). p .payload) ps)
 
 said-read : (v : Reading) → readSaid v ≡ gives [] → v ≡ read (pdusOf v)
 unfolding readSaid pdusOf
@@ -32,17 +32,17 @@ said-refused refused e = refl
 said-refused (read vs) e = let z : _≡_ {A = ℕ} 0 1 = cc in absurd (omega arith)
 
 -- what is accepted is a well-formed frame with the PDUs listed
-pub accepted : (s : List ℕ) → Bytes s → says s ≡ gives [] → (ps : List Pdu) × WellFormed s ps × lists s ps
+pub accepted : (s : List ℕ) → Bytes s → says s ≡ gives [] → (ps : List Pdu) × WellFormed s ps × Lists s ps
 accepted s bytes e =
     let w = accepted-well s bytes (pdusOf (readOf s)) (said-read (readOf s) e) in
-    (w .0, w .1, w .2, w .3)
+    (w .0, w .1, (w .2, w .3))
 
 -- no well-formed frame is refused, and its PDUs are listed
-pub well-accepted : (s : List ℕ) (ps : List Pdu) → WellFormed s ps → (says s ≡ gives []) × lists s ps
+pub well-accepted : (s : List ℕ) (ps : List Pdu) → WellFormed s ps → (says s ≡ gives []) × Lists s ps
 unfolding readSaid pdusOf
 well-accepted s ps w =
     let r = well-read s ps w in
-    (ap readSaid r, ap pdusOf r, ap (λ (v : Reading). map (payloadOf s) (pdusOf v)) r ∙ well-payloads s ps w)
+    (ap readSaid r, (ap pdusOf r, ap (λ (v : Reading). map (payloadOf s) (pdusOf v)) r ∙ well-payloads s ps w))
 
 -- what is refused is no frame, and what is no frame is refused with 12
 pub refused-none : (s : List ℕ) → says s ≡ refuses 12 [] → (ps : List Pdu) → WellFormed s ps → ⊥
