@@ -14,6 +14,19 @@ pduOverhead = 12
 abbrev pub frameHeaderBytes : ℕ
 frameHeaderBytes = 2
 
+-- where the fields of a PDU's header stand: the command first, then index, address, flags and IRQ
+abbrev pub indexAt : ℕ
+indexAt = 1
+
+abbrev pub addressAt : ℕ
+addressAt = 2
+
+abbrev pub flagsAt : ℕ
+flagsAt = 6
+
+abbrev pub irqAt : ℕ
+irqAt = 8
+
 -- the largest area, and the largest length of a PDU or a frame: what 11 bits hold; so many PDUs lie in it at most
 abbrev pub areaMost : ℕ
 areaMost = 2047
