@@ -1,10 +1,9 @@
 -- The reader's answer and the grammar: it says 12 exactly where the bytes are no well-formed frame, and else lists that frame's PDUs. By pdu's grammar, both ways.
-use mathlib.Core.Path.{_≡_, refl, ap, sym, _∙_}
-use Prim.Native.Nat.{ℕ, _*_, _≤_}
+use mathlib.Core.Path.{_≡_, refl, ap, _∙_}
+use Prim.Native.Nat.{ℕ}
 use native.Mathlib.Omega.{arith}
-use mathlib.Core.List.{List, [], _∷_, map}
-use lib.ListN.{length}
-use Rattle.refusal.specs.Said.{Said, gives, absent, refuses}
+use mathlib.Core.List.{List, [], map}
+use Rattle.refusal.specs.Said.{Said, gives, refuses}
 use Rattle.wire.specs.Bytes.{Bytes}
 use Rattle.pdu.specs.Pdu.{Pdu}
 use Rattle.pdu.specs.Read.{Reading, read, refused, readOf, payloadOf, shownAll}

@@ -1,6 +1,6 @@
 -- Laws of `walkedOf`, `placed`, `padded` and `listing`: one for each way out of the cycle, and from the places that it leaves to the answer.
 use mathlib.Core.Path.{_≡_, refl, ap, _∙_, sym}
-use Prim.Native.Nat.{ℕ, suc, _+_, _-_, _*_, _≤_, _<_}
+use Prim.Native.Nat.{ℕ, suc, _+_, _-_, _≤_, _<_}
 use native.Mathlib.Omega.{arith}
 use native.Mathlib.Numerals.{add-one}
 use native.Mathlib.Nat.{add-suc, suc-add, add-zero}
@@ -8,7 +8,7 @@ use mathlib.Core.List.{List, [], _∷_, _++_, append-assoc, map, map-append}
 use lib.ListN.{length, set, take, drop, getD, replicate, take-append-drop, length-take, length-map}
 use lib.Seq.{take-suc, set-at, take-at}
 use Rattle.pdu.specs.declared.PduFields.{PduFields}
-use Rattle.pdu.specs.Read.{Places, bad, good, before, seenAt, frameOf, Reading, refused, read, seenAll, readOf}
+use Rattle.pdu.specs.Read.{Places, bad, good, before, seenAt, frameOf, Reading, seenAll, readOf}
 use Rattle.pdu.proofs.Laws.{Few}
 use Rattle.frame_reader.specs.declared.FrameRead.{FrameRead}
 use Rattle.frame_reader.specs.declared.FrameAnswer.the-variants.{Frame}

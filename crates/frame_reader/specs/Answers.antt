@@ -1,7 +1,7 @@
 -- What the reader answers of what is read (document 01, 'Frames'). Definitions only.
 use Prim.Native.Nat.{ℕ, _-_}
 use mathlib.Core.Bool.{false}
-use mathlib.Core.List.{List, [], _∷_, _++_}
+use mathlib.Core.List.{List, [], _++_}
 use lib.ListN.{length, replicate}
 use Rattle.refusal.specs.Said.{Said, gives, refuses, saidOf}
 use Rattle.pdu.specs.declared.PduFields.{PduFields}

@@ -1,18 +1,18 @@
 -- PDUs laid one after the other are read back, each where it starts, with all its fields and payload bytes: by induction over the row, what stands before it growing.
 use mathlib.Core.Path.{_≡_, refl, ap, sym, _∙_}
-use mathlib.Core.Bool.{true, false}
+use mathlib.Core.Bool.{true}
 use Prim.Native.Nat.{ℕ, zero, suc, _+_, _-_, _*_, _/_, _%_, _≤_, _<_}
 use native.Mathlib.Omega.{arith}
 use native.Mathlib.Nat.{add-zero}
 use mathlib.Core.List.{List, [], _∷_, _++_, append-assoc, map}
-use lib.ListN.{length, take, drop, length-append, take-append-drop}
-use lib.Dec.{ltb, leb, eqb}
+use lib.ListN.{length, take, length-append, take-append-drop}
+use lib.Dec.{leb, eqb}
 use lib.Seq.{drop-append-add, take-at, length-take-le}
 use borrow.Author.Tests.{le-leb, lt-leb}
 use Rattle.wire.specs.Bytes.{byteAt, le16, le32, bytes16}
 use Rattle.pdu.specs.declared.PduFields.{PduFields}
 use Rattle.pdu.specs.Pdu.{Pdu, Fits, flagsOf, head, pduBytes, follows, layout, AllFit, frameHeader}
-use Rattle.pdu.specs.Read.{lengthOf, pduEnd, rightly, Places, good, bad, before, placesAt, frameOf, seenAt, payloadOf, Reading, read, readOf, shown, shownAll, starts, withMore, Extends, same, one-more}
+use Rattle.pdu.specs.Read.{lengthOf, pduEnd, rightly, good, before, placesAt, frameOf, seenAt, payloadOf, read, readOf, shown, shownAll, starts, withMore, Extends, one-more}
 use Rattle.pdu.specs.Grammar.{pduFrom, WellFormed}
 use Rattle.pdu.proofs.Laws.{byte-behind, rightly-last, rightly-more, body-last, body-more, places-step, frame-none, frame-some, read-as}
 use Rattle.pdu.proofs.Rows.{pdu-length, layout-none, layout-one, layout-length, follows-most}

@@ -1,5 +1,5 @@
 -- What a PDU is on the wire (ETG1000.4, 5.4.1.2), a row of PDUs, and the frame's header before them (5.3.3). Definitions only.
-use Prim.Native.Nat.{ℕ, _+_, _*_, _/_, _%_, _<_}
+use Prim.Native.Nat.{ℕ, _+_, _*_, _<_}
 use mathlib.Core.List.{List, [], _∷_, _++_}
 use lib.ListN.{length}
 use Rattle.wire.specs.Bytes.{bytes16, bytes32}

@@ -4,7 +4,7 @@ use mathlib.Core.Bool.{true, false}
 use Prim.Native.Nat.{ℕ, _<_, _≤_, _-_, _+_}
 use native.Mathlib.Omega.{arith}
 use borrow.Author.Needs.{needs}
-use Rattle.pdu.specs.Read.{lengthOf, pduEnd, rightly}
+use Rattle.pdu.specs.Read.{pduEnd, rightly}
 use Rattle.pdu.proofs.Laws.{rightly-fits, body-wrong, body-last, body-more, places-short, places-step}
 use Rattle.frame_reader.proofs.Laws.{walk-bad, walk-last, walk-behind, walk-more}
 use borrow.Fn.Kinds.{In}
