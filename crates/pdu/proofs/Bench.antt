@@ -4,7 +4,6 @@ use mathlib.Core.Path.{_≡_, refl}
 use mathlib.Core.Bool.{true, false}
 use mathlib.Core.List.{List, [], _∷_, _++_, map}
 use Rattle.wire.specs.Bytes.{byteAt}
-use Rattle.pdu.specs.declared.PduFields.{PduFields}
 use Rattle.pdu.specs.Pdu.{Pdu, frameHeader, layout}
 use Rattle.pdu.specs.Read.{rightly, bodyAt, placesAt, headed, frameOf, seenAt, payloadOf, readOf, read, shownAll}
 

@@ -6,16 +6,16 @@ use native.Mathlib.Omega.{arith}
 use native.Mathlib.Nat.{add-assoc, add-zero}
 use mathlib.Core.List.{List, [], _∷_, _++_, map}
 use lib.ListN.{length, take, drop, length-drop, take-append-drop}
-use lib.Dec.{leb, eqb}
+use lib.Dec.{eqb}
 use lib.Seq.{drop-cons, drop-drop, take-add, take-append-add, length-take-le}
 use borrow.Author.Tests.{leb-true, eqb-true, eqb-false}
 use Rattle.refusal.specs.Said.{pick}
 use Rattle.refusal.proofs.Tests.{both}
-use Rattle.wire.specs.Bytes.{byteAt, le16, le32, bytes16, Bytes}
+use Rattle.wire.specs.Bytes.{byteAt, le16, bytes16, Bytes}
 use Rattle.wire.proofs.Laws.{le16-fits, le32-fits}
 use Rattle.pdu.specs.declared.PduFields.{PduFields}
 use Rattle.pdu.specs.Pdu.{Pdu, Fits, head, pduBytes, layout, AllFit}
-use Rattle.pdu.specs.Read.{lengthOf, pduEnd, rightly, Places, good, bad, before, bodyAt, placesAt, headed, frameOf, seenAt, payloadOf, Reading, read, refused, seenAll, readOf, starts, shownAll}
+use Rattle.pdu.specs.Read.{lengthOf, pduEnd, rightly, Places, good, bad, before, bodyAt, placesAt, headed, frameOf, payloadOf, Reading, read, refused, seenAll, readOf, starts, shownAll}
 use Rattle.pdu.specs.Grammar.{pduFrom, WellFormed}
 use Rattle.pdu.proofs.Laws.{rightly-fits, rightly-ends, rightly-goes}
 use Rattle.pdu.proofs.Rows.{layout-one}

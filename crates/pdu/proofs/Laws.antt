@@ -1,17 +1,17 @@
 -- Laws of `rightly`, `bodyAt`, `placesAt` and `frameOf`: one for each way that a test goes, so that no caller unfolds them.
-use mathlib.Core.Path.{_≡_, refl, ap, sym, _∙_}
-use mathlib.Core.Bool.{Bool, true, false, false≢true}
-use Prim.Native.Nat.{ℕ, zero, suc, _+_, _-_, _*_, _/_, _%_, _≤_, _<_}
+use mathlib.Core.Path.{_≡_, refl, _∙_}
+use mathlib.Core.Bool.{Bool, true, false}
+use Prim.Native.Nat.{ℕ, zero, suc, _+_, _-_, _*_, _/_, _≤_, _<_}
 use native.Mathlib.Omega.{arith}
 use mathlib.Core.List.{List, [], _∷_, _++_, map}
-use lib.ListN.{length, getD}
-use lib.Dec.{ltb, leb, eqb}
+use lib.ListN.{length}
+use lib.Dec.{ltb, eqb}
 use lib.Seq.{getD-append-add}
-use borrow.Author.Tests.{lt-ltb, le-ltb, le-leb, lt-leb, eq-eqb, ne-eqb, leb-true, ltb-true, ltb-false, eqb-true, eqb-false}
+use borrow.Author.Tests.{lt-ltb, le-ltb, le-leb, lt-leb, eq-eqb, ne-eqb, ltb-true, ltb-false, eqb-true, eqb-false}
 use Rattle.refusal.specs.Said.{pick}
 use Rattle.wire.specs.Bytes.{byteAt, le16}
 use Rattle.pdu.specs.declared.PduFields.{PduFields}
-use Rattle.pdu.specs.Read.{lengthOf, pduEnd, rightly, Places, good, bad, before, bodyAt, placesAt, headed, frameOf, seenAt, Reading, read, refused, seenAll, readOf}
+use Rattle.pdu.specs.Read.{lengthOf, pduEnd, rightly, Places, good, bad, before, bodyAt, placesAt, headed, frameOf, seenAt, read, readOf}
 
 -- ---- bytes behind others
 

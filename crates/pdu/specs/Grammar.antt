@@ -4,7 +4,7 @@ use Prim.Native.Nat.{ℕ, _+_, _/_, _%_, _≤_}
 use mathlib.Core.List.{List, _++_}
 use lib.ListN.{length, take, drop}
 use Rattle.wire.specs.Bytes.{byteAt, le16, le32}
-use Rattle.pdu.specs.Pdu.{headerBytes, frameHeaderBytes, lengthPast, typeBit, Pdu, layout, AllFit}
+use Rattle.pdu.specs.Pdu.{indexAt, addressAt, flagsAt, irqAt, headerBytes, frameHeaderBytes, lengthPast, typeBit, Pdu, layout, AllFit}
 use Rattle.pdu.specs.Read.{lengthOf}
 
 -- s is a frame of these PDUs; bit 11 of the header isn't looked at
@@ -19,14 +19,14 @@ pub record WellFormed (s : List ℕ) (ps : List Pdu) : Type 0 where
 -- the PDU that stands at i, all of it
 abbrev pub pduFrom : List ℕ → ℕ → Pdu
 pduFrom s i =
-    let flags = le16 s (i + 6) in
+    let flags = le16 s (i + flagsAt) in
     let n = lengthOf flags in
     record {
       command = byteAt s i;
-      index = byteAt s (i + 1);
-      address = le32 s (i + 2);
+      index = byteAt s (i + indexAt);
+      address = le32 s (i + addressAt);
       extra = flags / lengthPast % 16;
-      irq = le16 s (i + 8);
+      irq = le16 s (i + irqAt);
       payload = take n (drop (i + headerBytes) s);
       counter = le16 s (i + (headerBytes + n));
     }

@@ -1,5 +1,5 @@
 -- What a PDU is on the wire (ETG1000.4, 5.4.1.2), a row of PDUs, and the frame's header before them (5.3.3). Definitions only.
-use Prim.Native.Nat.{ℕ, _+_, _*_, _/_, _%_, _<_}
+use Prim.Native.Nat.{ℕ, _+_, _*_, _<_}
 use mathlib.Core.List.{List, [], _∷_, _++_}
 use lib.ListN.{length}
 use Rattle.wire.specs.Bytes.{bytes16, bytes32}
@@ -13,6 +13,19 @@ pduOverhead = 12
 
 abbrev pub frameHeaderBytes : ℕ
 frameHeaderBytes = 2
+
+-- where the fields of a PDU's header stand: the command first, then index, address, flags and IRQ
+abbrev pub indexAt : ℕ
+indexAt = 1
+
+abbrev pub addressAt : ℕ
+addressAt = 2
+
+abbrev pub flagsAt : ℕ
+flagsAt = 6
+
+abbrev pub irqAt : ℕ
+irqAt = 8
 
 -- the largest area, and the largest length of a PDU or a frame: what 11 bits hold; so many PDUs lie in it at most
 abbrev pub areaMost : ℕ

@@ -1,13 +1,13 @@
 -- What is read of a frame's bytes. Definitions only.
 use Prim.Native.Nat.{ℕ, zero, suc, _+_, _/_, _%_}
 use mathlib.Core.List.{List, [], _∷_, _++_, map}
-use mathlib.Core.Bool.{Bool, true, false, _&&_}
+use mathlib.Core.Bool.{Bool, true, _&&_}
 use lib.ListN.{length, take, drop}
 use lib.Dec.{ltb, leb, eqb}
 use Rattle.refusal.specs.Said.{pick}
 use Rattle.wire.specs.Bytes.{byteAt, le16, le32}
 use Rattle.pdu.specs.declared.PduFields.{PduFields}
-use Rattle.pdu.specs.Pdu.{headerBytes, pduOverhead, frameHeaderBytes, lengthPast, circulatedBit, moreBit, typeBit, Pdu, follows}
+use Rattle.pdu.specs.Pdu.{indexAt, addressAt, flagsAt, irqAt, headerBytes, pduOverhead, frameHeaderBytes, lengthPast, circulatedBit, moreBit, typeBit, Pdu, follows}
 
 -- the length in flags, or in a frame's header
 abbrev pub lengthOf : ℕ → ℕ
@@ -38,7 +38,7 @@ bodyAt rest i end flags =
 -- the PDUs of s from i to `end`; the first argument bounds their number
 unfoldable pub placesAt : ℕ → List ℕ → ℕ → ℕ → Places
 placesAt zero s i end = bad
-placesAt (suc f) s i end = bodyAt (λ next. placesAt f s next end) i end (le16 s (i + 6))
+placesAt (suc f) s i end = bodyAt (λ next. placesAt f s next end) i end (le16 s (i + flagsAt))
 
 -- the frame's header is there, its type is 1 (bit 11 isn't looked at), and its length lies within the bytes
 unfoldable pub headed : List ℕ → Bool
@@ -56,16 +56,16 @@ frameOf s =
 -- the fields of the PDU whose header starts at i
 unfoldable pub seenAt : List ℕ → ℕ → PduFields
 seenAt s i =
-    let flags = le16 s (i + 6) in
+    let flags = le16 s (i + flagsAt) in
     let n = lengthOf flags in
     record {
       command = byteAt s i;
-      index = byteAt s (i + 1);
-      address = le32 s (i + 2);
+      index = byteAt s (i + indexAt);
+      address = le32 s (i + addressAt);
       len = n;
       circulated = eqb (flags / circulatedBit % 2) 1;
       «more_follows» = leb moreBit flags;
-      irq = le16 s (i + 8);
+      irq = le16 s (i + irqAt);
       place = i + headerBytes;
       counter = le16 s (i + (headerBytes + n));
     }
