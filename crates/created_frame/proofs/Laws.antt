@@ -12,13 +12,14 @@ use Rattle.refusal.specs.declared.Refusal.the-variants.{TooLong, BadArgument}
 use Rattle.refusal.proofs.Tests.{both}
 use Rattle.wire.specs.Bytes.{overlay, laid}
 use Rattle.wire.proofs.Laws.{length-overlay, overlay-next, laid-whole}
+use Rattle.pdu.specs.Pdu.{areaMost, pduOverhead, headerBytes, headerOf}
 use Rattle.created_frame.specs.declared.Builder.{Builder}
 use Rattle.created_frame.specs.declared.Push.{Push}
 use Rattle.created_frame.specs.declared.Pushed.the-variants as pushing
 use Rattle.created_frame.specs.declared.RestPush.{RestPush}
 use Rattle.created_frame.specs.declared.Rest.the-variants as resting
 use Rattle.created_frame.specs.Answers.{saidPushed, saidRest}
-use Rattle.created_frame.specs.Frame.{areaMost, commandMost, dataMost, headerBytes, pduOverhead, headerOf, more, marked, sound, acceptable, room, withPdu, Roomy, grown, after, pushed, pushedBuilder, pushedNext, afterPush, taken, restPushed, restBuilder, restNext, afterRest}
+use Rattle.created_frame.specs.Frame.{commandMost, dataMost, more, marked, sound, acceptable, room, withPdu, Roomy, grown, after, pushed, pushedBuilder, pushedNext, afterPush, taken, restPushed, restBuilder, restNext, afterRest}
 
 -- ---- what an accepted state and lengths are
 

@@ -5,29 +5,16 @@ use mathlib.Core.Bool.{Bool, true, false, _&&_}
 use lib.ListN.{length, take, set, replicate}
 use lib.Dec.{leb, eqb}
 use Rattle.refusal.specs.Said.{Said, gives, absent, refuses, pick}
-use Rattle.wire.specs.Bytes.{byteAt, bytes16, bytes32, overlay}
+use Rattle.wire.specs.Bytes.{byteAt, overlay}
+use Rattle.pdu.specs.Pdu.{areaMost, pduOverhead, headerBytes, headerOf}
 use Rattle.created_frame.specs.declared.Builder.{Builder}
 
--- ---- the limits
-abbrev pub areaMost : ℕ
-areaMost = 2047
-
-abbrev pub pduOverhead : ℕ
-pduOverhead = 12
-
--- .. of which the header has 10
-abbrev pub headerBytes : ℕ
-headerBytes = 10
-
+-- ---- the limits: of a command, and of data and override
 abbrev pub commandMost : ℕ
 commandMost = 14
 
--- data and override
 abbrev pub dataMost : ℕ
 dataMost = 65535
-
-abbrev pub headerOf : ℕ → ℕ → ℕ → ℕ → ℕ → List ℕ
-headerOf command index address flags irq = command ∷ index ∷ bytes32 address ++ bytes16 flags ++ bytes16 irq
 
 -- ---- what is within the bounds, and what has room
 

@@ -2,9 +2,9 @@
 // pdu_flags.rs and frame_header.rs, and document 01, 'Frames'. The frame's state goes in and comes back by value, and so does the index counter.
 use refusal::Refusal;
 ghost use mathlib.Core.Path.{_≡_};
-ghost use Prim.Native.Nat.{_+_, _%_, _≤_, _<_, max};
+ghost use Prim.Native.Nat.{_+_, _≤_, _<_, max};
 ghost use lib.ListN.{length};
-ghost use Rattle.created_frame.specs.Frame.{headerOf, marked, sound, acceptable, withPdu, Roomy, grown, pushed, pushedBuilder, pushedNext, afterPush, opened, afterOpen, taken, restPushed, restBuilder, restNext, afterRest, canPush};
+ghost use Rattle.created_frame.specs.Frame.{marked, sound, acceptable, withPdu, Roomy, grown, pushed, pushedBuilder, pushedNext, afterPush, opened, afterOpen, taken, restPushed, restBuilder, restNext, afterRest, canPush};
 ghost use Rattle.created_frame.specs.Answers.{saidOpened, saidPushed, saidRest, saidCan};
 
 // The state of one area: bytes used, PDUs pushed, and where the last PDU starts (of no meaning at count 0).
@@ -152,24 +152,6 @@ fn mark(area: &mut [u8], count: usize, last: usize)
     }
 }
 
-fn pack_header(command: u8, index: u8, address: u32, len: u16) -> [u8; 10]
-    ensures { λ r. ⌜ r ≡ headerOf command index address (len % 2048) 0 ⌝ }
-{
-    let n = len % 2048;
-    [
-        command,
-        index,
-        (address % 256) as u8,
-        (address / 256 % 256) as u8,
-        (address / 65536 % 256) as u8,
-        (address / 16777216 % 256) as u8,
-        (n % 256) as u8,
-        (n / 256 % 256) as u8,
-        0,
-        0,
-    ]
-}
-
 // A PDU of len payload bytes behind the used ones, of which `bytes` are written; its last two bytes, the working counter, are not.
 fn append(
     area: &mut [u8],
@@ -185,7 +167,7 @@ fn append(
 {
     let start = b.used;
     mark(area, b.count, b.last);
-    let head = pack_header(command, index, address, len as u16);
+    let head = pdu::pack_header(command, index, address, len as u16);
     wire::lay(area, start, &head);
     wire::lay(area, start + 10, bytes);
 }
