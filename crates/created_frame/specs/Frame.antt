@@ -137,9 +137,10 @@ afterOpen xs = pick (leb (length xs) areaMost) (replicate (length xs) 0) xs
 unfoldable pub canPush : ℕ → Builder → ℕ → Said
 canPush size b len = pick (sound size b && leb len dataMost) (gives (pick (room size b len) 1 0 ∷ [])) (refuses 14 [])
 
--- what writing a PDU is asked with: it fits, and so does the header of the one before
+-- what writing a PDU is asked with: it fits, and the state is sound
 pub record Roomy (size : ℕ) (b : Builder) (len given : ℕ) : Type 0 where
   pub small : size ≤ areaMost
   pub fits : b .used + (len + pduOverhead) ≤ size
   pub given-fits : given ≤ len
+  pub counted : pduOverhead * b .count ≤ b .used
   pub header-in : 0 < b .count → b .last + headerBytes ≤ b .used
