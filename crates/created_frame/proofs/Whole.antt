@@ -3,18 +3,19 @@ use mathlib.Core.Path.{_≡_, refl, sym, ap, _∙_}
 use mathlib.Core.Logic.{_≢_}
 use mathlib.Core.Bool.{Bool, true, false}
 use mathlib.Core.List.{List, [], _∷_, _++_}
-use Prim.Native.Nat.{ℕ, _+_, _-_, _%_, _≤_, _<_}
+use Prim.Native.Nat.{ℕ, _+_, _-_, _%_, _≤_, _<_, max, min}
 use native.Mathlib.Omega.{arith}
-use borrow.Author.Tests.{ne-eqb, eqb-false}
-use lib.Dec.{eqb}
+use borrow.Author.Tests.{leb-true, ne-eqb, eqb-false}
+use lib.Dec.{leb, eqb}
 use lib.ListN.{length, take, drop, length-append, length-take, List·getD-append}
 use lib.Seq.{getD-append-add, getD-take, getD-drop, getD-set-same, getD-set-other}
 use Rattle.refusal.specs.Said.{pick}
 use Rattle.wire.specs.Bytes.{byteAt, overlay}
+use Rattle.wire.proofs.Laws.{length-overlay}
 use Rattle.pdu.specs.Pdu.{headerOf}
 use Rattle.created_frame.specs.declared.Builder.{Builder}
-use Rattle.created_frame.specs.Frame.{more, marked, withPdu, Roomy}
-use Rattle.created_frame.proofs.Laws.{length-marked}
+use Rattle.created_frame.specs.Frame.{more, marked, acceptable, room, withPdu, Roomy, afterPush, taken, afterRest}
+use Rattle.created_frame.proofs.Laws.{accepted, has-room, length-marked}
 
 -- ---- a list laid over another: before it, in it, behind it
 
@@ -70,6 +71,10 @@ module _ (xs : List ℕ) (b : Builder) (index command address len : ℕ) (bytes 
       let n : length ys ≡ 10 + length bytes = length-append (headerOf command index address len 0) bytes in
       omega (arith, length-marked xs (b .count) (b .last), r .fits, r .given-fits)
 
+  -- it is as long as it was
+  pub length-with : length (withPdu xs b index command address len bytes) ≡ length xs
+  length-with = length-overlay (marked xs (b .count) (b .last)) (b .used) ys inside ∙ length-marked xs (b .count) (b .last)
+
   -- its header and the given bytes are written
   pub new-bytes : (k : ℕ) → k < 10 + length bytes → byteAt (withPdu xs b index command address len bytes) (b .used + k) ≡ byteAt (headerOf command index address len 0 ++ bytes) k
   new-bytes k lt = overlay-inside (marked xs (b .count) (b .last)) (b .used) ys inside k (omega (arith, length-append (headerOf command index address len 0) bytes))
@@ -90,3 +95,34 @@ module _ (xs : List ℕ) (b : Builder) (index command address len : ℕ) (bytes 
   rest-kept i le =
       overlay-past (marked xs (b .count) (b .last)) (b .used) ys inside i (omega (arith, length-append (headerOf command index address len 0) bytes))
       ∙ marked-else xs (b .count) (b .last) i (λ some e. omega (arith, r .header-in some))
+
+-- ---- no push changes the area's length
+
+module _ (xs : List ℕ) (b : Builder) (index command address : ℕ) (bytes : List ℕ) where
+  pub length-after-push : (over : ℕ) → length (afterPush xs b index command address bytes over) ≡ length xs
+  unfolding afterPush room
+  length-after-push over = go _ _ refl refl
+    where
+      go : (t r : Bool) → acceptable (length xs) b command (length bytes) over ≡ t → leb (b .used + (max (length bytes) over + 12)) (length xs) ≡ r
+          → length (pick t (pick r (withPdu xs b index command address (max (length bytes) over) bytes) xs) xs) ≡ length xs
+      go true true e f =
+          length-with xs b index command address (max (length bytes) over) bytes
+          (has-room _ _ _ _ (accepted (length xs) b command (length bytes) over e .state) (leb-true _ _ f) (omega arith))
+      go true false e f = refl
+      go false r e f = refl
+
+  pub length-after-rest : length (afterRest xs b index command address bytes) ≡ length xs
+  unfolding afterRest
+  length-after-rest = go _ _ refl refl
+    where
+      go : (t z : Bool) → acceptable (length xs) b command (length bytes) 0 ≡ t → eqb (taken (length xs) (b .used) (length bytes)) 0 ≡ z
+          → let n = taken (length xs) (b .used) (length bytes) in
+          length (pick t (pick z xs (withPdu xs b index command address n (take n bytes))) xs) ≡ length xs
+      go true false e f =
+          let n = taken (length xs) (b .used) (length bytes) in
+          let pos : n ≢ 0 = eqb-false n 0 f in
+          let l : length (take n bytes) ≡ n = rw length-take (omega arith) in
+          let a = accepted (length xs) b command (length bytes) 0 e in
+          length-with xs b index command address n (take n bytes) (has-room _ _ _ _ (a .state) (omega arith) (omega arith))
+      go true true e f = refl
+      go false z e f = refl
