@@ -1,0 +1,43 @@
+-- Bytes in a list: one, a number of several, a stretch of them, and one list laid over another. Definitions only.
+use Prim.Native.Nat.{ℕ, zero, suc, _+_, _-_, _*_, _/_, _%_, _<_}
+use mathlib.Core.List.{List, [], _∷_, _++_}
+use lib.ListN.{length, getD, take, drop}
+
+-- the byte at i; past the end 0xFF
+unfoldable pub byteAt : List ℕ → ℕ → ℕ
+byteAt s i = getD s i 255
+
+-- the numbers of 16 and 32 bits at i, the low byte first
+abbrev pub le16 : List ℕ → ℕ → ℕ
+le16 s i = byteAt s i + 256 * byteAt s (i + 1)
+
+abbrev pub le32 : List ℕ → ℕ → ℕ
+le32 s i = le16 s i + 65536 * le16 s (i + 2)
+
+-- the same as bytes: a number of 16 bits, and one of 32
+abbrev pub bytes16 : ℕ → List ℕ
+bytes16 n = n % 256 ∷ n / 256 % 256 ∷ []
+
+abbrev pub bytes32 : ℕ → List ℕ
+bytes32 n = n % 256 ∷ n / 256 % 256 ∷ n / 65536 % 256 ∷ n / 16777216 % 256 ∷ []
+
+-- every element is a byte
+unfoldable pub Bytes : List ℕ → Type 0
+Bytes s = (i : ℕ) → byteAt s i < 256
+
+-- the n bytes from i on
+unfoldable pub span : List ℕ → ℕ → ℕ → List ℕ
+span s i zero = []
+span s i (suc n) = byteAt s i ∷ span s (suc i) n
+
+-- a buffer whose first n bytes are those of s from i on, and the rest as before
+unfoldable pub filled : List ℕ → ℕ → ℕ → List ℕ → List ℕ
+filled s i n buf = span s i n ++ drop n buf
+
+-- xs with ys in place of what stood there from at on, where ys lies within
+unfoldable pub overlay : List ℕ → ℕ → List ℕ → List ℕ
+overlay xs at ys = take at xs ++ ys ++ drop (at + length ys) xs
+
+-- .. as much of ys as lies within
+unfoldable pub laid : List ℕ → ℕ → List ℕ → List ℕ
+laid xs at ys = overlay xs at (take (length xs - at) ys)
