@@ -12,6 +12,8 @@ use Rattle.ports.specs.declared.TimeAnswer.{TimeAnswer}
 use Rattle.ports.specs.declared.TimeAnswer.the-variants as time
 use Rattle.ports.specs.declared.TopologyAnswer.{TopologyAnswer}
 use Rattle.ports.specs.declared.TopologyAnswer.the-variants as topology
+use Rattle.ports.specs.declared.TextAnswer.{TextAnswer}
+use Rattle.ports.specs.declared.TextAnswer.the-variants as text
 use Rattle.ports.specs.declared.Ports.{Ports}
 use Rattle.ports.specs.Ports.{numberAt, nowhere, activePorts, entry, lastOf, firstThat, linkedAt}
 
@@ -38,6 +40,10 @@ countOf Cross = 4
 abbrev pub saidTopology : TopologyAnswer → Said
 saidTopology (topology.Is x) = gives (countOf x ∷ [])
 saidTopology (topology.No x) = saidOf x
+
+abbrev pub saidText : TextAnswer → Said
+saidText (text.Written n) = gives (n ∷ [])
+saidText (text.No x) = saidOf x
 
 -- ---- what is said of a device
 

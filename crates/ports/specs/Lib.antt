@@ -2,3 +2,4 @@ pub mod Ports
 pub mod Answers
 pub mod Delays
 pub mod Assigning
+pub mod Display

@@ -3,9 +3,10 @@
 // Places 0, 1, 2, 3 hold ports 0, 3, 1, 2, the order in which a frame passes them. The place decides, whatever `number` a record holds.
 ghost use mathlib.Core.Path.{_≡_};
 ghost use Rattle.ports.specs.Ports.{fresh, timesSet};
-ghost use Rattle.ports.specs.Answers.{saidPort, saidTime, saidTopology, entrySaid, lastSaid, linkedSaid, topologySaid};
+ghost use Rattle.ports.specs.Answers.{saidPort, saidTime, saidTopology, saidText, entrySaid, lastSaid, linkedSaid, topologySaid};
 ghost use Rattle.ports.specs.Delays.{totalSaid, timeToSaid, intermediateSaid};
 ghost use Rattle.ports.specs.Assigning.{assignedOf};
+ghost use Rattle.ports.specs.Display.{displaySaid, displayBuf};
 use active::count;
 use active::entry_place;
 use active::last_place;
@@ -25,11 +26,14 @@ use place::port_at;
 use place::port_or_absent;
 use place::timed_port;
 use refusal::Refusal;
+use text::put_text;
+use text::text_len;
 
 mod active;
 mod assign;
 mod delay;
 mod place;
+mod text;
 
 // The downstream device on a port.
 pub enum Link {
@@ -81,6 +85,12 @@ pub enum TimeAnswer {
 // Which topology.
 pub enum TopologyAnswer {
     Is(Topology),
+    No(Refusal),
+}
+
+// How many bytes of text.
+pub enum TextAnswer {
+    Written(usize),
     No(Refusal),
 }
 
@@ -215,6 +225,19 @@ impl Ports {
             PortAnswer::No(Refusal::BadArgument)
         } else {
             port_or_absent(linked_place(self, subdevice))
+        }
+    }
+    // The text `ports [ open closed open closed ]`, a word for each place, into the front of the buffer. Refuses 14 if it is too short.
+    pub fn display(self, buf: &mut [u8]) -> TextAnswer
+        ensures { λ r. ⌜ saidText r ≡ displaySaid self (now (buf .entry)) ⌝ }
+        ensures { λ _. ⌜ now (buf .exit) ≡ displayBuf self (now (buf .entry)) ⌝ }
+    {
+        let n = text_len(self);
+        if n <= buf.len() {
+            put_text(self, buf);
+            TextAnswer::Written(n)
+        } else {
+            TextAnswer::No(Refusal::BadArgument)
         }
     }
 }
