@@ -11,7 +11,7 @@ use borrow.Author.Tests.{lt-ltb, le-ltb, ltb-true, ltb-false, eqb-true, eqb-fals
 use Rattle.refusal.specs.Said.{pick}
 use Rattle.ports.specs.declared.Ports.{Ports}
 use Rattle.ports.specs.declared.Port.{Port}
-use Rattle.ports.specs.Ports.{placeOf, isFree, leadsTo, portAt, places, nowhere, activeAt, timeAt, unlinkedAt, linkedAt, those, firstThat, folded, taking, lastOf, sooner, earliest, activePorts, entry, only}
+use Rattle.ports.specs.Ports.{numberAt, placeOf, isFree, leadsTo, portAt, places, nowhere, activeAt, timeAt, unlinkedAt, linkedAt, those, firstThat, folded, taking, lastOf, sooner, earliest, activePorts, entry, only}
 use Rattle.ports.specs.Delays.{largest, smallest, spread, total, between, activeBetween, timeTo}
 
 -- ---- a port
@@ -22,6 +22,21 @@ place-low (suc zero) h = omega arith
 place-low (suc (suc zero)) h = omega arith
 place-low (suc (suc (suc zero))) h = omega arith
 place-low (suc (suc (suc (suc n)))) h = absurd (let z : ⊥ = omega arith in z)
+
+-- the place of the port at a place
+pub place-number : (k : ℕ) → k < 4 → placeOf (numberAt k) ≡ k
+place-number zero h = refl
+place-number (suc zero) h = refl
+place-number (suc (suc zero)) h = refl
+place-number (suc (suc (suc zero))) h = refl
+place-number (suc (suc (suc (suc k)))) h = absurd (let z : ⊥ = omega arith in z)
+
+pub number-low : (k : ℕ) → k < 4 → numberAt k < 4
+number-low zero h = omega arith
+number-low (suc zero) h = omega arith
+number-low (suc (suc zero)) h = omega arith
+number-low (suc (suc (suc zero))) h = omega arith
+number-low (suc (suc (suc (suc k)))) h = absurd (let z : ⊥ = omega arith in z)
 
 pub active-is : {q r : Port} {b : Bool} → q ≡ r → q .active ≡ b → r .active ≡ b
 active-is e h = rw e at h
@@ -158,22 +173,31 @@ module _ (p : Ports) where
 
 -- ---- the first with the smallest time
 
-abbrev Low : List ℕ → Type 0
-Low [] = Unit {0}
-Low (k ∷ ks) = (k < nowhere) × Low ks
+-- what holds of every one of a list
+abbrev pub All : (ℕ → Type 0) → List ℕ → Type 0
+All P [] = Unit {0}
+All P (k ∷ ks) = P k × All P ks
 
-low-those : (g : ℕ → Bool) (ks : List ℕ) → Low ks → Low (those g ks)
+-- what holds of every one that passes a test holds of those that pass it
+pub all-those : (P : ℕ → Type 0) (g : ℕ → Bool) (ks : List ℕ) → All (λ (k : ℕ). g k ≡ true → P k) ks → All P (those g ks)
 unfolding those
-low-those g [] a = tt
-low-those g (k ∷ ks) a = go (g k) (low-those g ks (a .1))
+all-those P g [] a = tt
+all-those P g (k ∷ ks) a = go (g k) refl (all-those P g ks (a .1))
   where
-    go : (b : Bool) → Low (those g ks) → Low (pick b (k ∷ those g ks) (those g ks))
-    go true next = (a .0, next)
-    go false next = next
+    go : (b : Bool) → g k ≡ b → All P (those g ks) → All P (pick b (k ∷ those g ks) (those g ks))
+    go true e next = (a .0 e, next)
+    go false e next = next
 
-pub low-active : (p : Ports) → Low (activePorts p)
+-- .. of the four places
+pub all-active : (P : ℕ → Type 0) (p : Ports) → ((k : ℕ) → k < nowhere → activeAt p k ≡ true → P k) → All P (activePorts p)
 unfolding activePorts
-low-active p = low-those (activeAt p) places (omega arith, (omega arith, (omega arith, (omega arith, tt))))
+all-active P p h = all-those P (activeAt p) places (h 0 (omega arith), (h 1 (omega arith), (h 2 (omega arith), (h 3 (omega arith), tt))))
+
+abbrev Low : List ℕ → Type 0
+Low = All (λ (k : ℕ). k < nowhere)
+
+low-active : (p : Ports) → Low (activePorts p)
+low-active p = all-active (λ (k : ℕ). k < nowhere) p (λ (k : ℕ) (h : k < nowhere) (a : activeAt p k ≡ true). h)
 
 module _ (t : ℕ → ℕ) where
   abbrev Least : ℕ → List ℕ → ℕ → Type 0
@@ -213,3 +237,12 @@ module _ (p : Ports) (e : ℕ) (q : e ≡ entry p) where
   pub total-none : nowhere ≤ e → 0 ≡ total p
   unfolding total spread entry largest smallest folded
   total-none h = rw (earliest-none (timeAt p) (activePorts p) (low-active p) (let z : nowhere ≤ entry p = omega arith in z))
+
+-- the total is at most the largest time of an active port
+pub total-most : (p : Ports) (most : ℕ) → ((k : ℕ) → k < nowhere → activeAt p k ≡ true → timeAt p k ≤ most) → total p ≤ most
+unfolding total spread largest folded
+total-most p most h = omega (arith, run 0 (activePorts p) (omega arith) (all-active (λ (k : ℕ). timeAt p k ≤ most) p h))
+  where
+    run : (x : ℕ) (ks : List ℕ) → x ≤ most → All (λ (k : ℕ). timeAt p k ≤ most) ks → folded max x (map (timeAt p) ks) ≤ most
+    run x [] b a = b
+    run x (k ∷ ks) b a = let q : timeAt p k ≤ most = a .0 in run (max x (timeAt p k)) ks (omega arith) (a .1)

@@ -3,3 +3,4 @@ pub mod Answers
 pub mod Delays
 pub mod Assigning
 pub mod Display
+pub mod Meaning
