@@ -88,7 +88,7 @@ pub chunk-laid : (image bytes buf out : List ℕ) (c : Chunk) (pos m at : ℕ) �
 chunk-laid image bytes buf out c pos m at e h k q =
     let n : pos % 2 + m - pos % 2 ≡ m = omega arith in
     let part : take m (drop (pos % 2) (chunkOf image (pos / 2) (widthOf c))) ≡ span image pos m =
-        chunk-part image (pos / 2) (widthOf c) (pos % 2) m h ∙ ap (λ (i : ℕ). span image i m) (halves pos) in
+    chunk-part image (pos / 2) (widthOf c) (pos % 2) m h ∙ ap (λ (i : ℕ). span image i m) (halves pos) in
     let fits : at + length (span image pos m) ≤ length buf = rw (length-span image pos m) k in
     rw (q, n, e, part, laid-whole buf at (span image pos m) fits)
 
