@@ -5,7 +5,7 @@ use native.Mathlib.Omega.{arith}
 use mathlib.Core.Path.{_≡_, refl, sym, ap, _∙_}
 use mathlib.Core.List.{List, [], _∷_}
 use mathlib.Core.Bool.{Bool, true, false}
-use borrow.Author.Tests.{le-leb, ltb-false, leb-true, leb-false, eqb-true}
+use borrow.Author.Tests.{le-leb, ltb-false, leb-false, eqb-true}
 use lib.Dec.{ltb, leb, eqb}
 use Rattle.refusal.specs.Said.{Said, gives, absent, refuses, pick}
 use Rattle.eeprom.specs.Image.{endMost}
@@ -13,7 +13,7 @@ use Rattle.eeprom.specs.Range.{newSaid}
 use Rattle.category.specs.Layout.{firstHeader, headerWords, typeAt, lengthAt, endMark, wordMost}
 use Rattle.category.specs.Category.{emptyMost, counted, Stepped, done, next, decided, stepped, follow, searchOver, searchFrom, searched}
 use Rattle.category.specs.First.{HeaderAt, first, behind, FirstOf}
-use Rattle.category.proofs.Laws.{Passes, step-passes, search-step, search-match, search-other, search-first, counted-more}
+use Rattle.category.proofs.Laws.{Passes, step-passes, search-match, search-other, search-first, counted-more}
 
 -- ---- a range that is given
 

@@ -1,10 +1,9 @@
 -- Document 01's bench cases of strings, and the points of order around them, by computing the definitions.
 use Prim.Native.Nat.{ℕ}
 use mathlib.Core.Path.{_≡_, refl}
-use mathlib.Core.Bool.{Bool, _&&_}
 use mathlib.Core.List.{List, [], _∷_, _++_}
 use lib.ListN.{replicate}
-use Rattle.refusal.specs.Said.{Said, gives, absent, refuses, on2, on3}
+use Rattle.refusal.specs.Said.{gives, absent, refuses, on2, on3}
 use Rattle.wire.specs.Bytes.{byteAt, span, overlay}
 use Rattle.eeprom.specs.Image.{within, fine}
 use Rattle.eeprom.specs.Range.{newSaid, byteIn, byteSaid, skipIn, skipSaid}

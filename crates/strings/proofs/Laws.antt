@@ -4,9 +4,9 @@ use native.Mathlib.Nat.{zero-add}
 use native.Mathlib.Numerals.{add-one, sub-one}
 use native.Mathlib.Omega.{arith}
 use mathlib.Core.Path.{_≡_, refl, sym, ap, _∙_}
-use mathlib.Core.List.{List, [], _∷_, _++_, append-assoc, append-nil}
-use mathlib.Core.Bool.{Bool, true, false, _&&_}
-use lib.ListN.{length, getD, set, take, drop, length-append}
+use mathlib.Core.List.{List, [], _∷_, _++_, append-assoc}
+use mathlib.Core.Bool.{Bool, true, false}
+use lib.ListN.{length, getD, set, length-append}
 use lib.Seq.{set-split}
 use lib.Dec.{eqb, ltb, leb}
 use borrow.Author.Tests.{le-ltb, eq-eqb, ne-eqb, ltb-false, leb-true}
@@ -18,7 +18,7 @@ use Rattle.eeprom.specs.Image.{within}
 use Rattle.eeprom.specs.Range.{byteSaid}
 use Rattle.category.specs.Numbers.{strings}
 use Rattle.category.specs.Category.{categorySaid}
-use Rattle.strings.specs.Strings.{stringPast, passedOne, passed, fitted, stringHere, stringBehind, stringIn, soughtAt, ascii, shown, textSaid, roomMost, fits, textFor, stringSaid, lengthSaid, roomAfter}
+use Rattle.strings.specs.Strings.{stringPast, passedOne, passed, fitted, stringHere, stringBehind, stringIn, soughtAt, ascii, shown, textSaid, roomMost, fits, textFor, lengthSaid, roomAfter}
 use Rattle.strings.specs.Answers.{Small}
 
 -- ---- the rule of the last index

@@ -1,5 +1,5 @@
 -- `behind` goes on where the strings before end, or refuses as passing over them does.
-use mathlib.Core.Path.{_≡_, ap, sym, _∙_}
+use mathlib.Core.Path.{ap, sym, _∙_}
 use borrow.Author.Needs.{needs}
 use Rattle.eeprom.specs.Answers.{saidRange}
 use Rattle.category.proofs.On.{on2-gives, on2-refuses}

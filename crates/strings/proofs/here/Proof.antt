@@ -1,5 +1,5 @@
 -- `here` fits what the byte read says, or refuses as that does.
-use mathlib.Core.Path.{_≡_, ap, sym, _∙_}
+use mathlib.Core.Path.{ap, sym, _∙_}
 use borrow.Author.Needs.{needs}
 use Rattle.eeprom.specs.Answers.{saidByte}
 use Rattle.category.proofs.On.{on3-gives, on3-refuses}

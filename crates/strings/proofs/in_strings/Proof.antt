@@ -1,5 +1,5 @@
 -- `in_strings` goes by the count that it read, or refuses as that reading does.
-use mathlib.Core.Path.{_≡_, ap, sym, _∙_}
+use mathlib.Core.Path.{ap, sym, _∙_}
 use borrow.Author.Needs.{needs}
 use Rattle.eeprom.specs.Answers.{saidByte}
 use Rattle.category.proofs.On.{on3-refuses}

@@ -1,5 +1,5 @@
 -- `sought` goes on in the category found, or says what the search says.
-use mathlib.Core.Path.{_≡_, ap, sym, _∙_}
+use mathlib.Core.Path.{ap, sym, _∙_}
 use borrow.Author.Needs.{needs}
 use Rattle.refusal.proofs.Tests.{tests}
 use Rattle.category.specs.Answers.{saidFound}
