@@ -1,155 +1,110 @@
--- Laws of the image's chunks and of a range. A byte, or a stretch of bytes, of a chunk is the image's, whatever the chunk's width.
-use Prim.Native.Nat.{ℕ, zero, suc, _+_, _-_, _*_, _/_, _%_, _≤_, _<_, min, max}
-use native.Mathlib.Nat.{not-suc-le-zero, le-of-suc-le-suc, add-zero}
+-- Laws of a range's rules, which callers cite in place of the definitions: what each call says inside its bounds, and outside.
+-- The law of a byte read is stated for positions before the end.
+use Prim.Native.Nat.{ℕ, _+_, _-_, _*_, _%_, _≤_, _<_, min, max}
 use native.Mathlib.Omega.{arith}
-use mathlib.Core.Path.{_≡_, refl, sym, ap, _∙_}
-use mathlib.Core.List.{List, [], _∷_, _++_, append-assoc}
+use mathlib.Core.Path.{_≡_, refl}
+use mathlib.Core.List.{List, [], _∷_, append-nil}
 use mathlib.Core.Bool.{Bool, true, false}
 use lib.Dec.{leb, ltb, eqb}
-use lib.ListN.{length, getD, take, drop, replicate, drop-of-length-le}
-use lib.Seq.{take-at, drop-at, drop-drop}
-use borrow.Author.Tests.{lt-ltb, le-ltb, le-leb, lt-leb, leb-true, leb-false, eqb-true}
+use lib.ListN.{length}
+use lib.Seq.{drop-length}
+use borrow.Author.Tests.{lt-ltb, le-ltb, le-leb, lt-leb, leb-true, leb-false, eq-eqb, eqb-true}
 use Rattle.refusal.specs.Said.{Said, gives, refuses, pick, on3}
 use Rattle.refusal.proofs.Tests.{both}
-use Rattle.wire.specs.Bytes.{byteAt, le16, le32, span, filled, overlay, laid}
-use Rattle.wire.proofs.Laws.{length-span, span-add, laid-whole}
-use Rattle.eeprom.specs.Image.{within, fine, chunkOf, widthOf}
-use Rattle.eeprom.specs.Range.{taken, readSaid, exactSaid, words, wordStart, Wrote, wrote}
-use Rattle.eeprom.specs.declared.Chunk.{Chunk}
-use Rattle.eeprom.specs.declared.Chunk.the-variants as chunk
-
--- ---- a chunk
-
-byte-span : (s : List ℕ) (i n k : ℕ) (rest : List ℕ) → k < n → byteAt (span s i n ++ rest) k ≡ byteAt s (i + k)
-unfolding byteAt span
-byte-span s i zero k rest h = absurd (not-suc-le-zero h)
-byte-span s i (suc n) zero rest h = rw (add-zero i)
-byte-span s i (suc n) (suc k) rest h =
-    byte-span s (suc i) n k rest (le-of-suc-le-suc h) ∙ ap (byteAt s) (let z : suc i + k ≡ i + suc k = omega arith in z)
-
--- a byte of a chunk is the image's
-pub chunk-byte : (image : List ℕ) (w n k : ℕ) → k < n → byteAt (chunkOf image w n) k ≡ byteAt image (2 * w + k)
-unfolding chunkOf filled
-chunk-byte image w n k h = byte-span image (2 * w) n k (drop n (replicate 8 0)) h
-
--- so are m bytes of it
-pub chunk-part : (image : List ℕ) (w n k m : ℕ) → k + m ≤ n → take m (drop k (chunkOf image w n)) ≡ span image (2 * w + k) m
-unfolding chunkOf filled
-chunk-part image w n k m h = go (n - (k + m)) (omega arith)
-  where
-    go : (j : ℕ) → n ≡ k + (m + j) → take m (drop k (span image (2 * w) n ++ drop n (replicate 8 0))) ≡ span image (2 * w + k) m
-    go j e =
-        rw (
-          e,
-          span-add image (2 * w) k (m + j),
-          span-add image (2 * w + k) m j,
-          append-assoc (span image (2 * w) k),
-          drop-at (span image (2 * w) k) _ k (length-span image (2 * w) k),
-          append-assoc (span image (2 * w + k) m),
-          take-at (span image (2 * w + k) m) _ m (length-span image (2 * w + k) m),
-        )
-
--- each width has the two bytes of a word and one more
-pub width-least : (c : Chunk) → 4 ≤ widthOf c
-width-least chunk.Four = omega arith
-width-least chunk.Eight = omega arith
-
-pub width-most : (c : Chunk) → widthOf c ≤ 8
-width-most chunk.Four = omega arith
-width-most chunk.Eight = omega arith
-
--- a place, from its word and whether it is the word's second byte
-pub halves : (i : ℕ) → 2 * (i / 2) + i % 2 ≡ i
-halves i = omega arith
-
--- a byte and a word read from a chunk, whatever its width, and a number of 32 bits from two words
-pub byte-read : (image bytes : List ℕ) (c : Chunk) (i r : ℕ) → bytes ≡ chunkOf image (i / 2) (widthOf c) → r ≡ byteAt bytes (i % 2) → r ≡ byteAt image i
-byte-read image bytes c i r e q =
-    let k : i % 2 < widthOf c = omega (arith, width-least c) in
-    q ∙ ap (λ (l : List ℕ). byteAt l (i % 2)) e ∙ chunk-byte image (i / 2) (widthOf c) (i % 2) k ∙ ap (byteAt image) (halves i)
-
-pub word-read : (image bytes : List ℕ) (c : Chunk) (w odd r : ℕ) → odd < 2 → bytes ≡ chunkOf image w (widthOf c) → r ≡ le16 bytes odd → r ≡ le16 image (2 * w + odd)
-word-read image bytes c w odd r h e q =
-    let k : odd < widthOf c = omega (arith, width-least c) in
-    let m : odd + 1 < widthOf c = omega (arith, width-least c) in
-    let s : 2 * w + (odd + 1) ≡ 2 * w + odd + 1 = omega arith in
-    rw (q, e, chunk-byte image w (widthOf c) odd k, chunk-byte image w (widthOf c) (odd + 1) m, s)
-
-pub long-read : (image : List ℕ) (i low high : ℕ) → low ≡ le16 image (2 * (i / 2) + i % 2) → high ≡ le16 image (2 * (i / 2 + 1) + i % 2)
-    → low + 65536 * high ≡ le32 image i
-long-read image i low high p q =
-    let e : 2 * (i / 2) + i % 2 ≡ i = halves i in
-    let f : 2 * (i / 2 + 1) + i % 2 ≡ i + 2 = omega arith in
-    rw (p, q, e, f)
-
--- m bytes of a chunk, laid
-pub chunk-laid : (image bytes buf out : List ℕ) (c : Chunk) (pos m at : ℕ) → bytes ≡ chunkOf image (pos / 2) (widthOf c) → pos % 2 + m ≤ widthOf c
-    → at + m ≤ length buf → out ≡ laid buf at (take (pos % 2 + m - pos % 2) (drop (pos % 2) bytes)) → out ≡ overlay buf at (span image pos m)
-chunk-laid image bytes buf out c pos m at e h k q =
-    let n : pos % 2 + m - pos % 2 ≡ m = omega arith in
-    let part : take m (drop (pos % 2) (chunkOf image (pos / 2) (widthOf c))) ≡ span image pos m =
-    chunk-part image (pos / 2) (widthOf c) (pos % 2) m h ∙ ap (λ (i : ℕ). span image i m) (halves pos) in
-    let fits : at + length (span image pos m) ≤ length buf = rw (length-span image pos m) k in
-    rw (q, n, e, part, laid-whole buf at (span image pos m) fits)
-
--- ---- a buffer filled by n bytes, and the next m laid behind them
-pub filled-next : (s : List ℕ) (i n m : ℕ) (buf : List ℕ) → overlay (filled s i n buf) n (span s (i + n) m) ≡ filled s i (n + m) buf
-unfolding filled overlay
-filled-next s i n m buf =
-    rw (
-      length-span s (i + n) m,
-      take-at (span s i n) (drop n buf) n (length-span s i n),
-      ← drop-drop m n (span s i n ++ drop n buf),
-      drop-at (span s i n) (drop n buf) n (length-span s i n),
-      drop-drop,
-      span-add,
-    )
-
--- ---- writing
-
--- the words of what is left of the bytes: the next one, and the words after it
-pub words-next : (bytes : List ℕ) (n : ℕ) → n < length bytes → words (drop n bytes) ≡ (getD bytes n 0 ∷ getD bytes (n + 1) 0 ∷ []) ∷ words (drop (n + 2) bytes)
-unfolding words
-words-next [] n h = absurd (not-suc-le-zero h)
-words-next (a ∷ []) zero h = refl
-words-next (a ∷ b ∷ rest) zero h = refl
-words-next (a ∷ bytes) (suc n) h =
-    let one : suc n + 1 ≡ suc (n + 1) = omega arith in
-    let two : suc n + 2 ≡ suc (n + 2) = omega arith in
-    rw (one, two) (words-next bytes n (le-of-suc-le-suc h))
-
--- a write that ends: the image as it then is, and how far it came
-abbrev pub over : List ℕ → ℕ → ℕ → ℕ → Wrote
-over image n pos end = record { image = image; said = gives (n ∷ pos ∷ end ∷ []) }
-
-pub wrote-end : (image : List ℕ) (n pos end : ℕ) (ws : List (List ℕ)) → end ≤ pos → wrote image n pos end ws ≡ over image n pos end
-unfolding wrote
-wrote-end image n pos end [] h = refl
-wrote-end image n pos end (w ∷ ws) h = rw (le-ltb pos end h)
-
-pub wrote-all : (image : List ℕ) (n pos end : ℕ) (bytes : List ℕ) → length bytes ≤ n → wrote image n pos end (words (drop n bytes)) ≡ over image n pos end
-unfolding wrote words
-wrote-all image n pos end bytes h = rw (drop-of-length-le bytes {i = n} h)
-
-pub wrote-next : (image : List ℕ) (n pos end : ℕ) (bytes : List ℕ) → pos < end → n < length bytes → wordStart pos + 2 ≤ length image
-    → wrote image n pos end (words (drop n bytes))
-    ≡ wrote (overlay image (wordStart pos) (getD bytes n 0 ∷ getD bytes (n + 1) 0 ∷ [])) (n + 2) (pos + 2) end (words (drop (n + 2) bytes))
-unfolding wrote
-wrote-next image n pos end bytes h i j = rw (words-next bytes n i, lt-ltb pos end h, le-leb (wordStart pos + 2) (length image) j)
-
-pub wrote-stop : (image : List ℕ) (n pos end : ℕ) (bytes : List ℕ) → pos < end → n < length bytes → length image < wordStart pos + 2
-    → wrote image n pos end (words (drop n bytes)) ≡ record { image = image; said = refuses 7 (pos ∷ end ∷ []) }
-unfolding wrote
-wrote-stop image n pos end bytes h i j = rw (words-next bytes n i, lt-ltb pos end h, lt-leb (wordStart pos + 2) (length image) j)
+use Rattle.wire.specs.Bytes.{byteAt, span, filled}
+use Rattle.eeprom.specs.Image.{imageMost, endMost, within, fine}
+use Rattle.eeprom.specs.Range.{newSaid, skipIn, skipSaid, byteIn, byteSaid, taken, readSaid, readBuf, exactSaid}
 
 -- ---- the bounds of a call
 
--- an end within the bounds is even
+pub within-is : (image : List ℕ) → length image ≤ imageMost → within image ≡ true
+unfolding within
+within-is image h = le-leb (length image) imageMost h
+
+pub within-length : (image : List ℕ) → within image ≡ true → length image ≤ imageMost
+unfolding within
+within-length image e = leb-true (length image) imageMost e
+
+pub fine-is : (image : List ℕ) (end : ℕ) → within image ≡ true → end % 2 ≡ 0 → fine image end ≡ true
+unfolding fine
+fine-is image end w e = rw (w, eq-eqb (end % 2) 0 e)
+
+pub fine-within : (image : List ℕ) (end : ℕ) → fine image end ≡ true → within image ≡ true
+unfolding fine
+fine-within image end e = both (within image) (eqb (end % 2) 0) e .0
+
 pub fine-even : (image : List ℕ) (end : ℕ) → fine image end ≡ true → end % 2 ≡ 0
 unfolding fine
 fine-even image end e = eqb-true (end % 2) 0 (both (within image) (eqb (end % 2) 0) e .1)
 
--- ---- an exact read
+-- ---- making a range
+
+pub new-gives : (w n : ℕ) → 2 * w + 2 * n ≤ endMost → newSaid w n ≡ gives ((2 * w) ∷ (2 * w + 2 * n) ∷ [])
+unfolding newSaid
+new-gives w n h = rw (le-leb (2 * w + 2 * n) endMost h)
+
+pub new-refuses : (w n : ℕ) → endMost < 2 * w + 2 * n → newSaid w n ≡ refuses 1 []
+unfolding newSaid
+new-refuses w n h = rw (lt-leb (2 * w + 2 * n) endMost h)
+
+-- ---- moving on
+
+pub skip-gives : (pos end skip : ℕ) → end % 2 ≡ 0 → pos + skip < end → skipSaid pos end skip ≡ gives ((pos + skip) ∷ end ∷ [])
+unfolding skipSaid skipIn
+skip-gives pos end skip e h = rw (eq-eqb (end % 2) 0 e, lt-ltb (pos + skip) end h)
+
+pub skip-refuses : (pos end skip : ℕ) → end % 2 ≡ 0 → end ≤ pos + skip → skipSaid pos end skip ≡ refuses 2 []
+unfolding skipSaid skipIn
+skip-refuses pos end skip e h = rw (eq-eqb (end % 2) 0 e, le-ltb (pos + skip) end h)
+
+-- ---- reading a byte
+
+pub byte-gives : (image : List ℕ) (pos end : ℕ) → fine image end ≡ true → pos < end → end ≤ endMost
+    → byteSaid image pos end ≡ gives (byteAt image pos ∷ (pos + 1) ∷ end ∷ [])
+unfolding byteSaid byteIn
+byte-gives image pos end f h m =
+    let k : pos < endMost = omega arith in
+    rw (f, lt-ltb pos endMost k)
+
+-- a call outside the bounds
+pub byte-bad : (image : List ℕ) (pos end : ℕ) → fine image end ≡ false → byteSaid image pos end ≡ refuses 14 []
+unfolding byteSaid
+byte-bad image pos end f = rw f
+
+-- ---- reading into a lent buffer
+
+pub read-gives : (image : List ℕ) (pos end k : ℕ) → fine image end ≡ true → readSaid image pos end k ≡ gives (taken pos end k ∷ (pos + taken pos end k) ∷ end ∷ [])
+unfolding readSaid
+read-gives image pos end k f = rw f
+
+pub read-fills : (image : List ℕ) (pos end : ℕ) (buf : List ℕ) → fine image end ≡ true → readBuf image pos end buf ≡ filled image pos (taken pos end (length buf)) buf
+unfolding readBuf
+read-fills image pos end buf f = rw f
+
+pub exact-gives : (image : List ℕ) (pos end k : ℕ) → fine image end ≡ true → pos + k ≤ end → exactSaid image pos end k ≡ gives ((pos + k) ∷ end ∷ [])
+unfolding exactSaid
+exact-gives image pos end k f h =
+    let m : k ≤ end - pos = omega arith in
+    rw (f, le-leb k (end - pos) m)
+
+-- no bytes always succeed
+pub exact-none : (image : List ℕ) (pos end : ℕ) → fine image end ≡ true → exactSaid image pos end 0 ≡ gives (pos ∷ end ∷ [])
+unfolding exactSaid
+exact-none image pos end f =
+    let m : 0 ≤ end - pos = omega arith in
+    let z : pos + 0 ≡ pos = omega arith in
+    rw (f, le-leb 0 (end - pos) m, z)
+
+pub exact-refuses : (image : List ℕ) (pos end k : ℕ) → fine image end ≡ true → end - pos < k → exactSaid image pos end k ≡ refuses 2 (max pos end ∷ end ∷ [])
+unfolding exactSaid
+exact-refuses image pos end k f h = rw (f, lt-leb k (end - pos) h)
+
+-- an exact read that fits fills the whole buffer
+pub exact-fills : (image : List ℕ) (pos end : ℕ) (buf : List ℕ) → fine image end ≡ true → pos + length buf ≤ end → readBuf image pos end buf ≡ span image pos (length buf)
+unfolding readBuf filled
+exact-fills image pos end buf f h =
+    let n : min (length buf) (end - pos) ≡ length buf = omega arith in
+    rw (f, n, drop-length, append-nil)
 
 -- what an exact read says of a read that took n bytes of k
 abbrev pub exactly : ℕ → ℕ → ℕ → ℕ → Said

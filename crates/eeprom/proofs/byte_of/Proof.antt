@@ -1,6 +1,6 @@
 -- `eeprom::byte_of` reads the chunk of the word that contains the byte, and takes the word's first or second byte.
 use borrow.Author.Needs.{needs}
-use Rattle.eeprom.proofs.Laws.{byte-read}
+use Rattle.eeprom.proofs.Chunks.{byte-read}
 use Rattle.eeprom.proofs.byte_of.Statement.{statement}
 use Rattle.eeprom.proofs.byte_of.Tie as tie
 

@@ -1,6 +1,6 @@
 -- `eeprom::long_of` joins the 16 bits at i and those two bytes on.
 use borrow.Author.Needs.{needs}
-use Rattle.eeprom.proofs.Laws.{long-read}
+use Rattle.eeprom.proofs.Chunks.{long-read}
 use Rattle.eeprom.proofs.long_of.Statement.{statement}
 use Rattle.eeprom.proofs.long_of.Tie as tie
 

@@ -1,9 +1,8 @@
 -- `eeprom::read_chunk` fills eight zeros with as many bytes as the chunk has.
-use mathlib.Core.Path.{ap, _∙_}
 use native.Mathlib.Omega.{arith}
 use borrow.Author.Needs.{needs}
 use Rattle.eeprom.specs.Image.{chunkOf}
-use Rattle.eeprom.proofs.Laws.{width-most}
+use Rattle.eeprom.proofs.Chunks.{width-most}
 use Rattle.eeprom.proofs.read_chunk.Statement.{statement}
 use Rattle.eeprom.proofs.read_chunk.Tie as tie
 

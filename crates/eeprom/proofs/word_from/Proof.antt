@@ -1,6 +1,6 @@
 -- `eeprom::word_from` takes two bytes of one chunk, which every width has.
 use borrow.Author.Needs.{needs}
-use Rattle.eeprom.proofs.Laws.{word-read}
+use Rattle.eeprom.proofs.Chunks.{word-read}
 use Rattle.eeprom.proofs.word_from.Statement.{statement}
 use Rattle.eeprom.proofs.word_from.Tie as tie
 

@@ -2,7 +2,7 @@
 use mathlib.Core.Path.{ap, _∙_}
 use borrow.Author.Needs.{needs}
 use Rattle.wire.specs.Bytes.{le16}
-use Rattle.eeprom.proofs.Laws.{halves}
+use Rattle.eeprom.proofs.Chunks.{halves}
 use Rattle.eeprom.proofs.word_of.Statement.{statement}
 use Rattle.eeprom.proofs.word_of.Tie as tie
 

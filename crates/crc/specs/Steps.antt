@@ -1,0 +1,25 @@
+-- The same division a byte at a time, as a loop does it, or a table of 256. Definitions only.
+use Prim.Native.Nat.{ℕ, zero, suc, _*_, _%_}
+use mathlib.Core.List.{List, [], _∷_}
+use lib.Dec.{ltb}
+use lib.Bits.{bitXor}
+use Rattle.refusal.specs.Said.{pick}
+use Rattle.crc.specs.Crc.{polynomial}
+
+-- a place to the left, and the polynomial taken off where a one leaves at the top
+unfoldable pub shifted : ℕ → ℕ
+shifted c = pick (ltb c 128) (c * 2) (bitXor (c % 128 * 2) polynomial)
+
+-- k places
+unfoldable pub shiftedBy : ℕ → ℕ → ℕ
+shiftedBy zero c = c
+shiftedBy (suc k) c = shiftedBy k (shifted c)
+
+-- the next byte added, and eight places
+abbrev pub withByte : ℕ → ℕ → ℕ
+withByte c b = shiftedBy 8 (bitXor c b)
+
+-- byte by byte from c on
+unfoldable pub stepped : ℕ → List ℕ → ℕ
+stepped c [] = c
+stepped c (b ∷ bs) = stepped (withByte c b) bs

@@ -1,0 +1,42 @@
+// The CRC-8 of the SII: polynomial 0x07, start 0xFF, no reflection, no final xor.
+// Follows `STATION_ALIAS_CRC` of src/eeprom/mod.rs and document 01, 'What is read out'.
+ghost use mathlib.Core.Path.{_≡_};
+ghost use Rattle.crc.specs.Crc.{crcOf};
+ghost use Rattle.crc.specs.Steps.{shifted, shiftedBy};
+
+// The polynomial, without its highest term.
+const POLYNOMIAL: u8 = 0x07;
+
+// The start value.
+const START: u8 = 0xFF;
+
+// The CRC of the bytes.
+pub fn crc(s: &[u8]) -> u8
+    ensures { λ r. ⌜ r ≡ crcOf (now (s .entry)) ⌝ }
+{
+    let mut c = START;
+    let mut i = 0;
+    while i < s.len() {
+        c = shift8(c ^ s[i]);
+        i += 1;
+    }
+    c
+}
+
+// One place to the left, and the polynomial taken off where a one leaves at the top.
+fn shift(c: u8) -> u8
+    ensures { λ r. ⌜ r ≡ shifted c ⌝ }
+{
+    if c < 128 {
+        c * 2
+    } else {
+        (c % 128 * 2) ^ POLYNOMIAL
+    }
+}
+
+// Eight places.
+fn shift8(c: u8) -> u8
+    ensures { λ r. ⌜ r ≡ shiftedBy 8 c ⌝ }
+{
+    shift(shift(shift(shift(shift(shift(shift(shift(c))))))))
+}

@@ -1,0 +1,141 @@
+-- An answer is known from what it says, by an inverse of its map into Said: so a promise on what is said allows one answer.
+use Prim.Native.Nat.{ℕ}
+use mathlib.Core.Path.{_≡_, refl, sym, ap, _∙_}
+use mathlib.Core.List.{List}
+use mathlib.Core.Bool.{Bool, false, _&&_}
+use lib.ListN.{length, getD}
+use lib.Dec.{ltb, eqb}
+use Rattle.refusal.specs.Said.{Said, gives, absent, refuses, numberOf, valuesOf, pick}
+use Rattle.refusal.specs.declared.Refusal.{Refusal}
+use Rattle.refusal.specs.declared.Refusal.the-variants.{
+  Address,
+  Overrun,
+  NoCategory,
+  StringTooLong,
+  Decode,
+  Capacity,
+  NotWritable,
+  TooLong,
+  NoPort,
+  BadPort,
+  Sum,
+  BadFrame,
+  NoRoom,
+  BadArgument,
+}
+use Rattle.refusal.proofs.Unique.{refusalOf, back}
+use Rattle.eeprom.specs.Answers.{saidRange, saidByte, saidReading, saidExact, saidWriting}
+use Rattle.eeprom.specs.declared.Range.{Range}
+use Rattle.eeprom.specs.declared.RangeAnswer.{RangeAnswer}
+use Rattle.eeprom.specs.declared.RangeAnswer.the-variants as range
+use Rattle.eeprom.specs.declared.ByteAnswer.{ByteAnswer}
+use Rattle.eeprom.specs.declared.ByteAnswer.the-variants as byte
+use Rattle.eeprom.specs.declared.Reading.{Reading}
+use Rattle.eeprom.specs.declared.Reading.the-variants as reading
+use Rattle.eeprom.specs.declared.Exact.{Exact}
+use Rattle.eeprom.specs.declared.Exact.the-variants as exact
+use Rattle.eeprom.specs.declared.Writing.{Writing}
+use Rattle.eeprom.specs.declared.Writing.the-variants as writing
+
+-- the range whose position is the list's value at i, and whose end follows it
+abbrev at : List ℕ → ℕ → ℕ → Range
+at l i j = record { «byte_pos» = getD l i 0; end = getD l j 0 }
+
+-- ---- a range that was asked for
+
+unfoldable pub rangeOf : Said → RangeAnswer
+rangeOf (gives l) = range.Made (at l 0 1)
+rangeOf absent = range.No Address
+rangeOf (refuses n l) = range.No (refusalOf n l)
+
+pub range-back : (r : RangeAnswer) → rangeOf (saidRange r) ≡ r
+unfolding rangeOf
+range-back (range.Made g) = refl
+range-back (range.No x) = ap range.No (back x)
+
+pub range-unique : (a b : RangeAnswer) (s : Said) → saidRange a ≡ s → saidRange b ≡ s → a ≡ b
+range-unique a b s p q = sym (range-back a) ∙ ap rangeOf (p ∙ sym q) ∙ range-back b
+
+-- ---- a byte
+
+unfoldable pub byteOf : Said → ByteAnswer
+byteOf (gives l) = byte.Byte (getD l 0 0) (at l 1 2)
+byteOf absent = byte.No Address
+byteOf (refuses n l) = byte.No (refusalOf n l)
+
+pub byte-back : (r : ByteAnswer) → byteOf (saidByte r) ≡ r
+unfolding byteOf
+byte-back (byte.Byte b g) = refl
+byte-back (byte.No x) = ap byte.No (back x)
+
+pub byte-unique : (a b : ByteAnswer) (s : Said) → saidByte a ≡ s → saidByte b ≡ s → a ≡ b
+byte-unique a b s p q = sym (byte-back a) ∙ ap byteOf (p ∙ sym q) ∙ byte-back b
+
+-- ---- a read
+
+unfoldable pub readingOf : Said → Reading
+readingOf (gives l) = reading.Took (getD l 0 0) (at l 1 2)
+readingOf absent = reading.No Address
+readingOf (refuses n l) = reading.No (refusalOf n l)
+
+pub reading-back : (r : Reading) → readingOf (saidReading r) ≡ r
+unfolding readingOf
+reading-back (reading.Took n g) = refl
+reading-back (reading.No x) = ap reading.No (back x)
+
+pub reading-unique : (a b : Reading) (s : Said) → saidReading a ≡ s → saidReading b ≡ s → a ≡ b
+reading-unique a b s p q = sym (reading-back a) ∙ ap readingOf (p ∙ sym q) ∙ reading-back b
+
+-- ---- a refusal that comes with the range: it has values, where the refusal of that number alone has none
+
+unfoldable pub moved : ℕ → ℕ → List ℕ → Bool
+moved k n l = ltb 0 (length l) && eqb n k
+
+moved-not : (k : ℕ) → eqb 4 k ≡ false → (x : Refusal) → moved k (numberOf x) (valuesOf x) ≡ false
+unfolding moved
+moved-not k h Address = refl
+moved-not k h Overrun = refl
+moved-not k h NoCategory = refl
+moved-not k h (StringTooLong r s) = h
+moved-not k h Decode = refl
+moved-not k h Capacity = refl
+moved-not k h NotWritable = refl
+moved-not k h TooLong = refl
+moved-not k h NoPort = refl
+moved-not k h BadPort = refl
+moved-not k h Sum = refl
+moved-not k h BadFrame = refl
+moved-not k h NoRoom = refl
+moved-not k h BadArgument = refl
+
+-- ---- an exact read
+
+unfoldable pub exactOf : Said → Exact
+exactOf (gives l) = exact.Full (at l 0 1)
+exactOf absent = exact.No Address
+exactOf (refuses n l) = pick (moved 2 n l) (exact.Short (at l 0 1)) (exact.No (refusalOf n l))
+
+pub exact-back : (r : Exact) → exactOf (saidExact r) ≡ r
+unfolding exactOf moved
+exact-back (exact.Full g) = refl
+exact-back (exact.Short g) = refl
+exact-back (exact.No x) = rw (moved-not 2 refl x) (ap exact.No (back x))
+
+pub exact-unique : (a b : Exact) (s : Said) → saidExact a ≡ s → saidExact b ≡ s → a ≡ b
+exact-unique a b s p q = sym (exact-back a) ∙ ap exactOf (p ∙ sym q) ∙ exact-back b
+
+-- ---- a write
+
+unfoldable pub writingOf : Said → Writing
+writingOf (gives l) = writing.Written (getD l 0 0) (at l 1 2)
+writingOf absent = writing.No Address
+writingOf (refuses n l) = pick (moved 7 n l) (writing.Stopped (at l 0 1)) (writing.No (refusalOf n l))
+
+pub writing-back : (r : Writing) → writingOf (saidWriting r) ≡ r
+unfolding writingOf moved
+writing-back (writing.Written n g) = refl
+writing-back (writing.Stopped g) = refl
+writing-back (writing.No x) = rw (moved-not 7 refl x) (ap writing.No (back x))
+
+pub writing-unique : (a b : Writing) (s : Said) → saidWriting a ≡ s → saidWriting b ≡ s → a ≡ b
+writing-unique a b s p q = sym (writing-back a) ∙ ap writingOf (p ∙ sym q) ∙ writing-back b
