@@ -1,0 +1,5 @@
+pub mod On
+pub mod Laws
+pub mod First
+pub mod Unique
+pub mod Bench

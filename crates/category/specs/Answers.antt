@@ -1,0 +1,18 @@
+-- What each answer says on paper, in document 01's numbers and values. Definitions only.
+use mathlib.Core.List.{[], _∷_}
+use Rattle.refusal.specs.Said.{Said, gives, absent, saidOf}
+use Rattle.category.specs.Category.{Stepped, done, next}
+use Rattle.category.specs.declared.Found.{Found}
+use Rattle.category.specs.declared.Found.the-variants as found
+use Rattle.category.specs.declared.Step.{Step}
+use Rattle.category.specs.declared.Step.the-variants as step
+
+-- a range gives its byte position and its end
+abbrev pub saidFound : Found → Said
+saidFound (found.At g) = gives (g .«byte_pos» ∷ g .end ∷ [])
+saidFound found.Absent = absent
+saidFound (found.No x) = saidOf x
+
+abbrev pub saidStep : Step → Stepped
+saidStep (step.Done f) = done (saidFound f)
+saidStep (step.Next w e) = next w e

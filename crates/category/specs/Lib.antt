@@ -1,0 +1,5 @@
+pub mod Layout
+pub mod Numbers
+pub mod Category
+pub mod First
+pub mod Answers
