@@ -9,7 +9,16 @@ ghost use Rattle.wire.specs.Bytes.{laid};
 ghost use Rattle.lines.specs.Words.{wordEnd, wordAt};
 ghost use Rattle.lines.specs.Numbers.{saidNumber, digitOf, numberFrom, numberSaid, decimalOf};
 ghost use Rattle.lines.specs.Pairs.{
-    saidHex, nibbleOf, allHex, isBytes, bytesOf, hexSaid, hexRoom, pairOf, pairsOf, hexText,
+  saidHex,
+  nibbleOf,
+  allHex,
+  isBytes,
+  bytesOf,
+  hexSaid,
+  hexRoom,
+  pairOf,
+  pairsOf,
+  hexText,
 };
 ghost use Rattle.lines.specs.Places.{after};
 
@@ -93,7 +102,11 @@ fn run(word: &[u8]) -> NumberAnswer
 pub fn number(word: &[u8]) -> NumberAnswer
     ensures { λ r. ⌜ saidNumber r ≡ numberSaid (now (word .entry)) ⌝ }
 {
-    if word.len() == 0 { NumberAnswer::Not } else { run(word) }
+    if word.len() == 0 {
+        NumberAnswer::Not
+    } else {
+        run(word)
+    }
 }
 
 fn nibble(b: u8) -> u8
@@ -168,7 +181,11 @@ pub fn hex(word: &[u8], room: &mut [u8]) -> HexAnswer
 fn next(len: usize, k: usize, n: usize) -> usize
     ensures { λ r. ⌜ r ≡ after len k n ⌝ }
 {
-    if k < len { k + wire::lesser(n, len - k) } else { k }
+    if k < len {
+        k + wire::lesser(n, len - k)
+    } else {
+        k
+    }
 }
 
 // Lays a text over out from k on, as much of it as has room, and answers the next place.
@@ -224,5 +241,9 @@ pub fn hex_out(out: &mut [u8], k: usize, bytes: &[u8]) -> usize
     ensures { λ r. ⌜ r ≡ after (length (now (out .entry))) k (length (hexText (now (bytes .entry)))) ⌝ }
     ensures { λ _. ⌜ now (out .exit) ≡ laid (now (out .entry)) k (hexText (now (bytes .entry))) ⌝ }
 {
-    if bytes.len() == 0 { say(out, k, b"-") } else { pairs(out, k, bytes) }
+    if bytes.len() == 0 {
+        say(out, k, b"-")
+    } else {
+        pairs(out, k, bytes)
+    }
 }

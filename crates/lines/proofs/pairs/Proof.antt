@@ -39,8 +39,7 @@ loop-again c =
     let a = c .before .before .before .before .before .before .before .before .before .args in
     let l = c .before .before .before .before .before .before .loop in
     let h = c .before .before .before .before .before .loop-test .taken in
-    let e = c .before .before .pair .ensures in
-    (
+    let e = c .before .before .pair .ensures in (
       ap length (e .1) ∙ length-laid _ _ _ ∙ l .inv .0,
       pairs-place (length (a .out .now)) (l .p) _ (a .bytes .now) (l .i) h (e .0 ∙ ap (λ n. after n (l .p) 2) (l .inv .0)) ∙ l .inv .1,
       pairs-laid (l .out) _ (l .p) _ (a .bytes .now) (l .i) h (e .0) (e .1) ∙ l .inv .2,
@@ -53,8 +52,7 @@ returns : tie.Need-returns Inv-loop μ-loop
 returns c =
     let a = c .before .before .before .before .args in
     let l = c .before .loop in
-    let e = pairs-out (a .bytes .now) (l .i) (c .loop-test .left) in
-    (
+    let e = pairs-out (a .bytes .now) (l .i) (c .loop-test .left) in (
       sym (after-none (length (a .out .now)) (l .p)) ∙ ap (λ s. after (length (a .out .now)) (l .p) (length s)) (sym e) ∙ l .inv .1,
       sym (laid-none (l .out) (l .p)) ∙ ap (laid (l .out) (l .p)) (sym e) ∙ l .inv .2,
     )

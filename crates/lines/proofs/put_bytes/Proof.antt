@@ -78,8 +78,7 @@ loop-again c =
     let l = c .before .before .before .before .before .loop in
     let b = bytesOf (a .word .now) in
     let v : 16 * c .before .before .nibble .result + c .nibble2 .result ≡ getD b (l .j) 0 =
-        rw (c .before .before .nibble .ensures, c .nibble2 .ensures) (byte-of (a .word .now) (l .j) (omega arith)) in
-    (
+    rw (c .before .before .nibble .ensures, c .nibble2 .ensures) (byte-of (a .word .now) (l .j) (omega arith)) in (
       rw (v, l .inv .0, add-one, ← paste-suc (a .room .now) 0 b (l .j) 0 (omega arith) (omega arith), zero-add),
       search needs,
       search needs,
