@@ -1,7 +1,7 @@
 -- What a push answers, and what it leaves: the area's bytes, the builder's state, the index counter (document 01, 'Frames'). Definitions only.
-use Prim.Native.Nat.{ℕ, _+_, _-_, _*_, _/_, _%_, _≤_, _<_, min, max}
+use Prim.Native.Nat.{ℕ, _+_, _-_, _*_, _%_, _≤_, _<_, min, max}
 use mathlib.Core.List.{List, [], _∷_, _++_}
-use mathlib.Core.Bool.{Bool, true, false, _&&_}
+use mathlib.Core.Bool.{Bool, _&&_}
 use lib.ListN.{length, take, set, replicate}
 use lib.Dec.{leb, eqb}
 use Rattle.refusal.specs.Said.{Said, gives, absent, refuses, pick}
@@ -136,6 +136,8 @@ afterOpen xs = pick (leb (length xs) areaMost) (replicate (length xs) 0) xs
 -- what `can_push_pdu_payload` says: 1 or 0
 unfoldable pub canPush : ℕ → Builder → ℕ → Said
 canPush size b len = pick (sound size b && leb len dataMost) (gives (pick (room size b len) 1 0 ∷ [])) (refuses 14 [])
+
+-- ---- inside the builder
 
 -- what writing a PDU is asked with: it fits, and the state is sound
 pub record Roomy (size : ℕ) (b : Builder) (len given : ℕ) : Type 0 where

@@ -1,5 +1,5 @@
-// The frame builder: PDUs pushed one after the other into a lent area. It follows created_frame.rs of the Rust, with the packing of pdu_header.rs,
-// pdu_flags.rs and frame_header.rs, and document 01, 'Frames'. The frame's state goes in and comes back by value, and so does the index counter.
+// The frame builder: PDUs pushed one after the other into a lent area. It follows created_frame.rs of the Rust and document 01, 'Frames';
+// headers are packed by `pdu`. The state of an area goes in and comes back by value, and so does the index counter.
 use refusal::Refusal;
 ghost use mathlib.Core.Path.{_≡_};
 ghost use Prim.Native.Nat.{_+_, _≤_, _<_, max};
