@@ -2,18 +2,18 @@
 use Prim.Native.Nat.{ℕ, zero, suc, _+_, _-_, _*_, _/_, _%_, _≤_, _<_}
 use native.Mathlib.Nat.{zero-add}
 use native.Mathlib.Omega.{arith}
-use mathlib.Core.Path.{_≡_, refl, sym, ap, _∙_}
-use mathlib.Core.Bool.{Bool, true, false, _&&_, cond}
+use mathlib.Core.Path.{_≡_, refl, ap, _∙_}
+use mathlib.Core.Bool.{Bool, true, false, cond}
 use mathlib.Core.List.{List, [], _∷_, _++_}
-use lib.ListN.{length, getD, length-append}
-use lib.Dec.{eqb, leb, ltb}
+use lib.ListN.{length, length-append}
+use lib.Dec.{leb, ltb}
 use borrow.Author.Tests.{lt-ltb, le-ltb, le-leb, eq-eqb, ne-eqb, ltb-true, ltb-false}
 use Rattle.io.specs.Digits.{glyph}
 use Rattle.refusal.specs.Said.{gives, pick}
 use Rattle.refusal.proofs.Tests.{both}
 use Rattle.wire.specs.Bytes.{byteAt, Bytes, laid}
 use Rattle.lines.specs.Numbers.{numberMost, digitOf, allDigits, valueFrom, numberFrom, numberSaid, decimalIn, decimalOf}
-use Rattle.lines.specs.Pairs.{dash, nibbleOf, allHex, isBytes, bytesOf, hexFits, hexSaid, hexRoom, pairOf, pairsOf, hexText}
+use Rattle.lines.specs.Pairs.{nibbleOf, allHex, isBytes, bytesOf, hexFits, hexSaid, hexRoom, pairsOf, hexText}
 
 -- ---- a number
 

@@ -2,7 +2,7 @@
 // The form of a line is that of docs/DESK.md.
 ghost use mathlib.Core.Path.{_≡_};
 ghost use mathlib.Core.Bool.{true};
-ghost use Prim.Native.Nat.{_+_, _*_, _≤_, _<_};
+ghost use Prim.Native.Nat.{_≤_, _<_};
 ghost use lib.ListN.{length};
 ghost use Rattle.io.specs.Digits.{glyph as glyphOf};
 ghost use Rattle.wire.specs.Bytes.{laid};
@@ -24,8 +24,9 @@ ghost use Rattle.lines.specs.Places.{after};
 
 // A word as a number.
 pub enum NumberAnswer {
+    // The number that its digits spell.
     Is(u64),
-    // No digits only, or above 32 bits.
+    // It has no digit, or a byte that is none, or its value is above 32 bits.
     Not,
 }
 
@@ -33,7 +34,7 @@ pub enum NumberAnswer {
 pub enum HexAnswer {
     // How many there are.
     Length(usize),
-    // No BYTES, or more than have room.
+    // It is no BYTES, or they have no room.
     Not,
 }
 
@@ -63,6 +64,7 @@ pub fn word(line: &[u8], from: usize) -> &[u8]
     }
 }
 
+// The value of a decimal digit; 10 of any other byte.
 fn digit(b: u8) -> u64
     ensures { λ r. ⌜ r ≡ digitOf b ⌝ }
 {
@@ -78,7 +80,7 @@ fn digit(b: u8) -> u64
 // The largest number that a line may hold.
 const NUMBER_MOST: u64 = 4294967295;
 
-// The digits from the first on.
+// What a word's digits say; no digit at all says 0.
 fn run(word: &[u8]) -> NumberAnswer
     ensures { λ r. ⌜ saidNumber r ≡ numberFrom 0 (now (word .entry)) ⌝ }
 {
@@ -109,6 +111,7 @@ pub fn number(word: &[u8]) -> NumberAnswer
     }
 }
 
+// The value of a hex digit in lower case; 16 of any other byte.
 fn nibble(b: u8) -> u8
     ensures { λ r. ⌜ r ≡ nibbleOf b ⌝ }
 {
@@ -125,6 +128,7 @@ fn nibble(b: u8) -> u8
     }
 }
 
+// Whether a word has hex digits only.
 fn all_hex(word: &[u8]) -> bool
     ensures { λ r. ⌜ r ≡ allHex (now (word .entry)) ⌝ }
 {
@@ -138,6 +142,7 @@ fn all_hex(word: &[u8]) -> bool
     true
 }
 
+// Whether a word is BYTES.
 fn is_bytes(word: &[u8]) -> bool
     ensures { λ r. ⌜ r ≡ isBytes (now (word .entry)) ⌝ }
 {
@@ -208,6 +213,7 @@ pub fn decimal(out: &mut [u8], k: usize, n: u64) -> usize
     say(out, k, &digits[..count])
 }
 
+// The hex digit of a value below 16.
 fn glyph(d: u8) -> u8
     requires { ⌜ d < 16 ⌝ }
     ensures { λ r. ⌜ r ≡ glyphOf d ⌝ }
@@ -215,6 +221,7 @@ fn glyph(d: u8) -> u8
     if d < 10 { 48 + d } else { 87 + d }
 }
 
+// A byte's two digits.
 fn pair(out: &mut [u8], k: usize, b: u8) -> usize
     ensures { λ r. ⌜ r ≡ after (length (now (out .entry))) k 2 ⌝ }
     ensures { λ _. ⌜ now (out .exit) ≡ laid (now (out .entry)) k (pairOf b) ⌝ }
@@ -223,6 +230,7 @@ fn pair(out: &mut [u8], k: usize, b: u8) -> usize
     say(out, k, &text)
 }
 
+// The two digits of each byte.
 fn pairs(out: &mut [u8], k: usize, bytes: &[u8]) -> usize
     ensures { λ r. ⌜ r ≡ after (length (now (out .entry))) k (length (pairsOf (now (bytes .entry)))) ⌝ }
     ensures { λ _. ⌜ now (out .exit) ≡ laid (now (out .entry)) k (pairsOf (now (bytes .entry))) ⌝ }

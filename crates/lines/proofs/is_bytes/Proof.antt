@@ -1,5 +1,5 @@
 -- `lines::is_bytes` goes by the length: one byte or none, an even number, an odd one.
-use mathlib.Core.Path.{sym, ap, _∙_}
+use mathlib.Core.Path.{ap, _∙_}
 use lib.Dec.{eqb}
 use borrow.Author.Needs.{needs}
 use Rattle.lines.specs.Pairs.{dash}

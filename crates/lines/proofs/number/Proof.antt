@@ -1,5 +1,4 @@
 -- `lines::number` makes the definition's test.
-use mathlib.Core.Path.{_∙_}
 use borrow.Author.Needs.{needs}
 use Rattle.refusal.proofs.Tests.{tests}
 use Rattle.lines.specs.Numbers.{numberSaid}

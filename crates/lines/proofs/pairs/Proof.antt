@@ -1,6 +1,6 @@
 -- `lines::pairs` lays pair behind pair: what the rest will make, from the place reached, is what the whole makes.
 use mathlib.Core.Path.{_≡_, refl, sym, ap, _∙_}
-use Prim.Native.Nat.{_≤_, _-_}
+use Prim.Native.Nat.{_-_}
 use borrow.Author.Needs.{needs}
 use lib.ListN.{length, drop}
 use Rattle.wire.specs.Bytes.{laid}

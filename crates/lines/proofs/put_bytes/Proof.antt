@@ -1,13 +1,13 @@
 -- `lines::put_bytes` lays the bytes: after j turns the room is what it was with the first j bytes of the word's over its front.
-use mathlib.Core.Path.{_≡_, refl, sym, ap, _∙_}
-use Prim.Native.Nat.{ℕ, _≤_, _-_, _+_, _*_}
+use mathlib.Core.Path.{_≡_, refl, _∙_}
+use Prim.Native.Nat.{_≤_, _-_, _+_, _*_}
 use native.Mathlib.Nat.{zero-add}
 use native.Mathlib.Numerals.{add-one}
 use native.Mathlib.Omega.{arith}
 use borrow.Author.Needs.{needs}
 use lib.ListN.{length, getD}
 use lib.Seq.{paste, paste-zero, paste-suc, take-length}
-use Rattle.wire.specs.Bytes.{laid, overlay}
+use Rattle.wire.specs.Bytes.{overlay}
 use Rattle.wire.proofs.Laws.{laid-whole}
 use Rattle.lines.specs.Pairs.{bytesOf}
 use Rattle.lines.proofs.Laws.{length-bytes, nibble-in, byte-of}

@@ -1,5 +1,4 @@
 -- `lines::word` is what stands between its start and its end.
-use mathlib.Core.Path.{_≡_, sym, _∙_}
 use native.Mathlib.Omega.{arith}
 use borrow.Author.Needs.{needs}
 use Rattle.lines.proofs.Laws.{end-within, word-part, word-out}

@@ -1,6 +1,6 @@
 -- `lines::word_end` goes on to the first space: the word ends where it would from each place passed.
 use mathlib.Core.Path.{_≡_, refl, _∙_}
-use Prim.Native.Nat.{_≤_, _-_}
+use Prim.Native.Nat.{_-_}
 use borrow.Author.Needs.{needs}
 use lib.ListN.{length}
 use Rattle.lines.specs.Words.{wordEnd}
