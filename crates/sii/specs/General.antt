@@ -1,0 +1,86 @@
+-- The category General: document 01, 'When the desk says no', number 3, and types.rs, `SiiGeneral`. Definitions only.
+use Prim.Native.Nat.{ℕ, _+_, _/_, _%_}
+use mathlib.Core.List.{List, [], _∷_}
+use mathlib.Core.Bool.{Bool, true, false, _&&_}
+use lib.Dec.{leb, ltb}
+use Rattle.refusal.specs.Said.{Said, gives, absent, refuses, pick, on2}
+use Rattle.category.specs.Numbers as numbers
+use Rattle.category.specs.Category.{categorySaid}
+use Rattle.sii.specs.Layout.{
+  field,
+  generalBytes,
+  groupIdx,
+  imgIdx,
+  orderIdx,
+  nameIdx,
+  coeDetails,
+  foeDetails,
+  eoeDetails,
+  generalFlags,
+  currentOnEBus,
+  physicalPort,
+  physicalMemoryAddress,
+  coeBelow,
+  flagsBelow,
+}
+use Rattle.sii.specs.declared.SiiGeneral.{SiiGeneral}
+
+-- a value of an enum whose listed ones are 0 to the last: one not listed is the default, 0
+unfoldable pub listed : ℕ → ℕ → ℕ
+listed last n = pick (leb n last) n 0
+
+-- a port's status: not used, MII, reserved, EBus, fast hot connect
+abbrev pub portStatus : ℕ → ℕ
+portStatus n = listed 4 n
+
+unfoldable pub generalOf : List ℕ → ℕ → SiiGeneral
+generalOf image p = record {
+  «group_string_idx» = field image p groupIdx;
+  «image_string_idx» = field image p imgIdx;
+  «order_string_idx» = field image p orderIdx;
+  «name_string_idx» = field image p nameIdx;
+  «coe_details» = field image p coeDetails;
+  «foe_enabled» = ltb 0 (field image p foeDetails);
+  «eoe_enabled» = ltb 0 (field image p eoeDetails);
+  flags = field image p generalFlags;
+  «ebus_current» = field image p currentOnEBus;
+  port0 = portStatus (field image p physicalPort % 16);
+  port1 = portStatus (field image p physicalPort / 16 % 16);
+  port2 = portStatus (field image p physicalPort / 256 % 16);
+  port3 = portStatus (field image p physicalPort / 4096 % 16);
+  «physical_memory_addr» = field image p physicalMemoryAddress;
+}
+
+-- no undefined bit stands in the CoE details, nor in the flags
+unfoldable pub generalAdmits : SiiGeneral → Bool
+generalAdmits g = ltb (g .«coe_details») coeBelow && ltb (g .flags) flagsBelow
+
+abbrev pub bit : Bool → ℕ
+bit true = 1
+bit false = 0
+
+abbrev pub generalValues : SiiGeneral → List ℕ
+generalValues g =
+    g .«group_string_idx» ∷ g .«image_string_idx» ∷ g .«order_string_idx» ∷ g .«name_string_idx» ∷ g .«coe_details»
+    ∷ bit (g .«foe_enabled») ∷ bit (g .«eoe_enabled») ∷ g .flags ∷ g .«ebus_current»
+    ∷ g .port0 ∷ g .port1 ∷ g .port2 ∷ g .port3 ∷ g .«physical_memory_addr» ∷ []
+
+-- of a category from p to end: its bytes are read exactly (2), then decoded (5)
+unfoldable pub generalIn : List ℕ → ℕ → ℕ → Said
+generalIn image p end =
+    pick (leb (p + generalBytes) end)
+    (pick (generalAdmits (generalOf image p)) (gives (generalValues (generalOf image p))) (refuses 5 []))
+    (refuses 2 [])
+
+-- General, where it is found
+unfoldable pub generalFound : List ℕ → Said
+generalFound image = on2 (categorySaid image numbers.general) (generalIn image)
+
+-- General is needed, and not found is 3
+unfoldable pub needed : Said → Said
+needed (gives l) = gives l
+needed absent = refuses 3 []
+needed (refuses n l) = refuses n l
+
+unfoldable pub generalSaid : List ℕ → Said
+generalSaid image = needed (generalFound image)

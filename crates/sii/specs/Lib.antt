@@ -1,0 +1,5 @@
+pub mod Layout
+pub mod Fixed
+pub mod General
+pub mod Answers
+pub mod Alias
