@@ -223,7 +223,7 @@ module _ (s : List ℕ) (bytes : Bytes s) where
   taken-well l e =
       whole-step (headed s) (eqb long 0) (placesAt (length s) s 2 (long + 2)) l refl refl (λ h q. parsed s bytes (length s) 2 (long + 2) l h q) e
 
-  -- ---- THE THEOREMS: what is accepted is a well-formed frame, read as its PDUs with their payloads; and the refused have no PDUs to be frames of
+  -- ---- THE THEOREMS: what is accepted is a well-formed frame, read as its PDUs with their payloads; what is refused is no well-formed frame
 
   read-step : (R : Places) (vs : List PduFields) → frameOf s ≡ R → seenAll s R ≡ read vs → (l : List ℕ) × (frameOf s ≡ good l)
   read-step bad vs f e = let z : _≡_ {A = ℕ} 0 1 = cc in absurd (omega arith)
