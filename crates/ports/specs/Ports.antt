@@ -124,7 +124,7 @@ unfoldable pub linkSet : Ports → ℕ → ℕ → Ports
 linkSet p k d = record { 0 = set (p .0) k (linked (portAt p k) d) }
 
 abbrev pub onlyIf : Port → Bool → Port
-onlyIf q b = record { active = q .active && b; «dc_receive_time» = q .«dc_receive_time»; number = q .number; «downstream_to» = q .«downstream_to» }
+onlyIf q b = record { active = b && q .active; «dc_receive_time» = q .«dc_receive_time»; number = q .number; «downstream_to» = q .«downstream_to» }
 
 -- the record in which only those active ports are active whose places pass a test
 unfoldable pub only : (ℕ → Bool) → Ports → Ports
