@@ -1,6 +1,6 @@
 -- Which port the next downstream device is linked to (document 01, 'Ports and delays'). Definitions only.
 use Prim.Native.Nat.{ℕ, zero, suc, _+_}
-use mathlib.Core.List.{List, [], _∷_, _++_}
+use mathlib.Core.List.{List, [], _++_}
 use lib.Dec.{ltb, eqb}
 use lib.ListN.{take, drop}
 use Rattle.refusal.specs.Said.{Said, refuses, absent, pick}
