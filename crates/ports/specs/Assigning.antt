@@ -22,6 +22,7 @@ repeated (suc n) ks = ks ++ repeated n ks
 abbrev pub rounds : ℕ
 rounds = 8
 
+-- how many of it are looked at
 abbrev pub lookMost : ℕ
 lookMost = 4
 
