@@ -1,12 +1,12 @@
 -- Document 01's bench cases on ports, and what DECISIONS says of a record that no call made, in the definitions: each is computed.
-use Prim.Native.Nat.{ℕ, _≤_}
+use Prim.Native.Nat.{ℕ}
 use native.Mathlib.Nat.{le-refl}
 use mathlib.Core.Path.{_≡_, refl, ap, _∙_}
 use mathlib.Core.Bool.{true, false}
-use mathlib.Core.List.{List, [], _∷_, _++_}
+use mathlib.Core.List.{[], _∷_}
 use lib.Dec.{ltb}
 use borrow.Author.Tests.{le-ltb}
-use Rattle.refusal.specs.Said.{Said, gives, absent}
+use Rattle.refusal.specs.Said.{gives, absent}
 use Rattle.ports.specs.declared.Link.the-variants.{To}
 use Rattle.ports.specs.declared.Ports.{Ports}
 use Rattle.ports.specs.Answers.{entrySaid}

@@ -1,17 +1,17 @@
 -- Laws of the ports' definitions. Going through a list of those places that pass a test is going through all places, with the test at each.
 use Prim.Native.Nat.{ℕ, zero, suc, _+_, _-_, _≤_, _<_, min, max}
-use native.Mathlib.Nat.{zero-add, add-zero, sub-zero, zero-max}
+use native.Mathlib.Nat.{zero-add, add-zero}
 use native.Mathlib.Omega.{arith}
 use mathlib.Core.Path.{_≡_, refl, sym, ap, _∙_}
 use mathlib.Core.Bool.{Bool, true, false, _&&_, and-true}
-use mathlib.Core.List.{List, [], _∷_, _++_, append-assoc, map}
-use lib.Dec.{ltb, leb, eqb}
-use lib.ListN.{length, take, drop, getD, set}
-use borrow.Author.Tests.{lt-ltb, le-ltb, ltb-true, ltb-false, eqb-true, eqb-false}
+use mathlib.Core.List.{List, [], _∷_, _++_, map}
+use lib.Dec.{ltb}
+use lib.ListN.{length}
+use borrow.Author.Tests.{lt-ltb, ltb-true, ltb-false}
 use Rattle.refusal.specs.Said.{pick}
 use Rattle.ports.specs.declared.Ports.{Ports}
 use Rattle.ports.specs.declared.Port.{Port}
-use Rattle.ports.specs.Ports.{numberAt, placeOf, isFree, leadsTo, portAt, places, nowhere, activeAt, timeAt, unlinkedAt, linkedAt, those, firstThat, folded, taking, lastOf, sooner, earliest, activePorts, entry, only}
+use Rattle.ports.specs.Ports.{numberAt, placeOf, isFree, places, nowhere, activeAt, timeAt, linkedAt, those, firstThat, folded, taking, lastOf, sooner, earliest, activePorts, entry, only}
 use Rattle.ports.specs.Delays.{largest, smallest, spread, total, between, activeBetween, timeTo}
 
 -- ---- a port

@@ -1,6 +1,5 @@
 // The list of active ports, gone through place by place: the entry, the last, the count, the one with a link.
 ghost use mathlib.Core.Path.{_≡_};
-ghost use mathlib.Core.Bool.{Bool, true, false};
 ghost use Prim.Native.Nat.{_<_, _≤_};
 ghost use lib.ListN.{length};
 ghost use Rattle.refusal.specs.Said.{pick};

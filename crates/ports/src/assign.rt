@@ -19,6 +19,7 @@ pub(crate) struct Look {
     taken: usize,
 }
 
+// Whether no device is linked.
 fn is_free(link: Link) -> bool
     ensures { λ r. ⌜ r ≡ isFree link ⌝ }
 {

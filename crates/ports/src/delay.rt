@@ -1,8 +1,7 @@
 // Delays from the receive times of the active ports: over all of them, from the entry to a port, between neighbours.
 ghost use mathlib.Core.Path.{_≡_};
-ghost use mathlib.Core.Bool.{_&&_};
 ghost use mathlib.Core.List.{map};
-ghost use Prim.Native.Nat.{_<_, _≤_, _-_, _*_, max};
+ghost use Prim.Native.Nat.{_<_, _≤_, _-_, max};
 ghost use Rattle.ports.specs.Ports.{activeAt, timeAt, taking, portAt, activePorts, onlyIf, only};
 ghost use Rattle.ports.specs.Answers.{saidTime};
 ghost use Rattle.ports.specs.Delays.{largest, total, delaySaid, gap, gaps, between};

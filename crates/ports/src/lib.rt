@@ -41,6 +41,7 @@ pub enum Link {
     To(u16),
 }
 
+// One port of a device.
 pub struct Port {
     pub active: bool,
     // When the port saw the frame, by the device's clock, in nanoseconds.
