@@ -1,0 +1,35 @@
+"""A second opinion on document 01, in plain Python.
+
+What it is for: the comparison asks the desk, the original Rust and this
+program the same questions and looks for different answers. The Rust has no
+frame reader, no spreading and not all refusals; there this program is the
+only other voice.
+
+It was written from the words: document 01, the design's open points and the
+desk's line protocol. Its writer saw neither the Rattle nor the Rust. Where
+the words left a choice, UNCLEAR.md says what was chosen.
+
+How to run it, from the repository's root:
+
+    python3 compare/independent < requests > answers
+    python3 compare/independent/tests.py
+
+One request a line goes in, one answer a line comes out. It needs Python 3
+and nothing else. Answers are written as soon as the lines of one read are
+done, so it can also be asked in batches through a pipe.
+
+Where things are:
+
+    refusal.py   the fourteen refusals
+    crc.py       the checksum
+    eeprom.py    the EEPROM range
+    category.py  finding a category
+    sii.py       alias, identity, mailbox, size, General, lists
+    strings.py   strings, device name, description
+    ports.py     ports, topology, delays
+    frames.py    the builder and the frame reader
+    spread.py    the spreading
+    lines.py     reading words and printing answers
+    requests.py  the table of requests
+    desk.py      the loop over the lines
+"""

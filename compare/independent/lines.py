@@ -1,0 +1,121 @@
+"""Reading the words of a line, printing an answer.
+
+All on bytes: a line may hold anything. A word that can't be read raises
+Unreadable, and the whole line is then answered by a bare `refuses 14`.
+"""
+
+from binascii import unhexlify
+
+from .refusal import ABSENT, Refusal
+
+BYTES_LIMIT = 131_072
+UNREADABLE = "refuses 14"
+HEX_DIGITS = b"0123456789abcdef"
+
+
+class Unreadable(Exception):
+    pass
+
+
+# --- Reading ---
+
+
+def _number(limit):
+    digits = len(str(limit))
+
+    def parse(word):
+        # isdigit() of bytes is true of 0 to 9 alone, and false of no digits.
+        if not word.isdigit():
+            raise Unreadable
+        if len(word) > digits:
+            # "leading zeros allowed"; int() refuses very long words.
+            word = word.lstrip(b"0") or b"0"
+            if len(word) > digits:
+                raise Unreadable
+        value = int(word)
+        if value > limit:
+            raise Unreadable
+        return value
+
+    return parse
+
+
+u8 = _number(0xFF)
+u16 = _number(0xFFFF)
+u32 = _number(0xFFFF_FFFF)
+active = _number(1)
+
+
+def chunk(word):
+    """4 or 8. No answer depends on it, so nobody looks at it afterwards."""
+    value = u16(word)
+    if value not in (4, 8):
+        raise Unreadable
+    return value
+
+
+def data(word):
+    """Lower-case hex pairs, `-` for none."""
+    if word == b"-":
+        return bytearray()
+    if not word or len(word) % 2 or len(word) > 2 * BYTES_LIMIT:
+        raise Unreadable
+    # unhexlify would take upper case too.
+    if word.translate(None, HEX_DIGITS):
+        raise Unreadable
+    return bytearray(unhexlify(word))
+
+
+# --- Printing ---
+
+
+def said(call, *arguments):
+    """`gives`, `absent` or `refuses` with the values of a call.
+
+    A call gives one number, a row of numbers, or absent. `nothing` and
+    `counted` wrap those that give something else.
+    """
+    try:
+        values = call(*arguments)
+    except Refusal as refusal:
+        return _row("refuses", (refusal.number,) + refusal.values)
+    if values is ABSENT:
+        return "absent"
+    if isinstance(values, int):
+        return f"gives {values:d}"
+    return _row("gives", values)
+
+
+def nothing(call):
+    """A call that answers, but without values."""
+
+    def without_values(*arguments):
+        call(*arguments)
+        return ()
+
+    return without_values
+
+
+def counted(call):
+    """A list of records: the count, then each record's numbers."""
+
+    def flat(*arguments):
+        records = call(*arguments)
+        values = [len(records)]
+        for record in records:
+            values.extend(record)
+        return values
+
+    return flat
+
+
+def record(*numbers):
+    return _row(" @", numbers)
+
+
+def lent(slice_):
+    return " | " + (slice_.hex() or "-")
+
+
+def _row(word, numbers):
+    return " ".join([word, *map(str, numbers)])

@@ -1,0 +1,1159 @@
+"""Tests. Expected values are worked out by hand from the documents.
+
+Run with `python3 compare/independent/tests.py`.
+"""
+
+import os
+import random
+import subprocess
+import sys
+import unittest
+from functools import lru_cache
+
+HERE = os.path.dirname(os.path.abspath(__file__))
+sys.path.insert(0, os.path.dirname(HERE))
+
+from independent import desk, requests, spread  # noqa: E402
+from independent.crc import crc  # noqa: E402
+
+
+def ask(line):
+    """The answer to a line of text or bytes."""
+    return requests.answer(line.encode() if isinstance(line, str) else line)
+
+
+def hexed(data):
+    return bytes(data).hex() or "-"
+
+
+def packed(text):
+    """Bytes written with spaces, without them."""
+    return text.replace(" ", "").lower()
+
+
+def header(number, words):
+    return number.to_bytes(2, "little") + words.to_bytes(2, "little")
+
+
+def image(*categories):
+    """128 zero bytes, then categories of (number, body); the end reads 0xFF."""
+    result = bytes(128)
+    for number, body in categories:
+        assert len(body) % 2 == 0
+        result += header(number, len(body) // 2) + body
+    return result.hex()
+
+
+def ports(*places):
+    """A port record from (active, time, link) or None, by place."""
+    words = []
+    for place in places:
+        words += place or (0, 0, 0)
+    return " ".join(map(str, words))
+
+
+NO_PORTS = ports(None, None, None, None)
+ALL_FOUR = ports((1, 100, 0), (1, 200, 0), (1, 300, 0), (1, 400, 0))
+THREE = ports((1, 10, 0), (1, 30, 0), None, (1, 90, 0))
+
+BENCH_STRINGS = bytes.fromhex("020341 00b5 0142 00".replace(" ", ""))
+GENERAL = bytes.fromhex(
+    "01 02 03 04 99 3f 02 00 ff ff ff 1f 38 ff 31 f4 34 12".replace(" ", ""))
+
+
+class Case(unittest.TestCase):
+    def says(self, line, answer):
+        self.assertEqual(ask(line), answer, line[:200])
+
+    def starts(self, line, beginning):
+        answer = ask(line)
+        self.assertTrue(
+            (answer + " ").startswith(beginning + " "), (line[:200], answer[:200]))
+
+
+class Bench(Case):
+    """Document 01, 'Measured on the bench'."""
+
+    def test_crc(self):
+        self.says("crc " + "00" * 14, "gives 48")
+        self.says("crc " + b"123456789".hex(), "gives 251")
+
+    def test_31_empty_headers_then_empty_strings(self):
+        line = "category {} 4 10"
+        empty = [(0, b"")]
+        self.says(line.format(image(*empty * 31, (10, b""))), "absent")
+
+    def test_30_empty_headers_then_empty_strings(self):
+        # 31 headers of 4 bytes from byte 128: the range stands at 252.
+        line = "category {} 8 10"
+        empty = [(0, b"")]
+        self.says(line.format(image(*empty * 30, (10, b""))), "gives 252 252")
+
+    def test_strings(self):
+        line = "string " + image((10, BENCH_STRINGS)) + " 4 {} eeeeeeee"
+        self.says(line.format(1), "gives 2 | 413feeee")
+        self.says(line.format(2), "gives 1 | 42eeeeee")
+        self.says(line.format(3), "gives 0 | eeeeeeee")
+        self.says(line.format(4), "absent | eeeeeeee")
+
+    def test_all_four_active(self):
+        self.says("total " + ALL_FOUR, "gives 300")
+        self.says("between " + ALL_FOUR + " 1", "gives 200")
+
+    def test_three_active(self):
+        self.says("between " + THREE + " 2", "gives 20")
+        self.says("timeto " + THREE + " 2", "gives 80")
+
+    def test_links_with_equal_times(self):
+        before = "1 5 0 1 5 0 0 0 0 0 0 0"
+        once = "1 5 0 1 5 7 0 0 0 0 0 0"
+        twice = "1 5 8 1 5 7 0 0 0 0 0 0"
+        self.says(f"assign {before} 7", f"gives 3 @ {once}")
+        self.says(f"assign {once} 8", f"gives 0 @ {twice}")
+        self.says(f"assign {twice} 9", f"absent @ {twice}")
+
+    def test_two_pdus(self):
+        # Address 00 00 30 01 on the wire is 0x01300000, low byte first.
+        area = "00" * 28
+        one = packed("07 00 00 00 30 01 02 00 00 00 00 00 00 00") + "00" * 14
+        self.says(f"push {area} 0 0 0 0 7 19922944 0000 0",
+                  f"gives 0 14 @ 14 1 0 1 | {one}")
+        # 01 10 20 01 is 0x01201001.
+        two = packed("07 00 00 00 30 01 02 80 00 00 00 00 00 00"
+                     "05 01 01 10 20 01 02 00 00 00 08 00 00 00")
+        self.says(f"push {one} 14 1 0 1 5 18878465 0800 0",
+                  f"gives 14 14 @ 28 2 14 2 | {two}")
+        self.says("header 28", "gives | 1c10")
+        self.says(f"push {two} 28 2 14 2 7 0 - 0",
+                  f"refuses 8 @ 28 2 14 3 | {two}")
+        self.says(f"frame 1c10{two}",
+                  "gives 2 7 0 19922944 2 0 1 0 12 0 5 1 18878465 2 0 0 0 26 0")
+
+    def test_spreading(self):
+        areas = "00" * 200
+        line = "spread 100 " + areas + " 0 0 0 0 12 0 {}"
+        self.starts(line.format("ab" * 88), "gives 1 100 1 0 @ 1 |")
+        self.starts(line.format("ab" * 89), "gives 2 100 1 0 13 1 0 @ 2 |")
+        self.starts(line.format("ab" * 176), "gives 2 100 1 0 100 1 0 @ 2 |")
+        self.says(line.format("ab" * 177), "refuses 13 @ 0 | " + areas)
+
+    def test_spreading_with_90_used(self):
+        first = "11" * 100
+        piece = packed("0c 00 00 00 00 00 01 00 00 00 ab 00 00") + "00" * 87
+        self.says(f"spread 100 {first}{'22' * 100} 90 1 0 0 12 0 ab",
+                  f"gives 2 90 1 0 13 1 0 @ 1 | {first}{piece}")
+
+
+class Crc(Case):
+    def test_start(self):
+        self.says("crc -", "gives 255")
+
+    def test_one_byte(self):
+        # 0xFF ^ 0xFF is 0, and 0 shifted stays 0.
+        self.says("crc ff", "gives 0")
+        # 0xFF ^ 0xFE is 1; seven shifts make 0x80, the eighth the polynomial.
+        self.says("crc fe", "gives 7")
+
+    def test_as_polynomial_division(self):
+        # The remainder of the message times x^8, the start xored onto the
+        # first byte.
+        chance = random.Random(1)
+        for length in range(1, 40):
+            data = chance.randbytes(length)
+            number = int.from_bytes(bytes([data[0] ^ 0xFF]) + data[1:], "big")
+            number <<= 8
+            for bit in range(8 * length + 7, 7, -1):
+                if number >> bit & 1:
+                    number ^= 0x107 << (bit - 8)
+            self.assertEqual(crc(data), number)
+
+
+class Range(Case):
+    def test_new(self):
+        self.says("new 3 4", "gives 6 14")
+        self.says("new 32767 0", "gives 65534 65534")
+        self.says("new 0 32767", "gives 0 65534")
+        self.says("new 32768 0", "refuses 1")
+        self.says("new 1 32767", "refuses 1")
+        self.says("new 65535 65535", "refuses 1")
+
+    def test_start_at_halves(self):
+        self.says("startat 3 9", "gives 6 14")
+        self.says("startat 0 65535", "gives 0 65534")
+        self.says("startat 1 65534", "refuses 1")
+        self.says("startat 0 1", "gives 0 0")
+
+    def test_skip(self):
+        self.says("skip 0 8 7", "gives @ 7 8")
+        self.says("skip 0 8 8", "refuses 2 @ 0 8")
+        self.says("skip 8 8 0", "refuses 2 @ 8 8")
+        self.says("skip 9 8 0", "refuses 2 @ 9 8")
+        self.says("skip 7 8 0", "gives @ 7 8")
+
+    def test_skip_adds_in_full(self):
+        self.says("skip 65535 65534 65535", "refuses 2 @ 65535 65534")
+
+    def test_byte_is_not_stopped_by_the_end(self):
+        self.says("byte 0a0b0c 4 2 2", "gives 12 @ 3 2")
+        self.says("byte 0a0b0c 4 3 2", "gives 255 @ 4 2")
+        self.says("byte 0a0b0c 4 65534 2", "gives 255 @ 65535 2")
+        self.says("byte 0a0b0c 4 65535 2", "refuses 1 @ 65535 2")
+
+    def test_byte_near_the_top_of_a_full_image(self):
+        full = "07" * 65_536
+        self.says(f"byte {full} 8 65534 0", "gives 7 @ 65535 0")
+        self.says(f"byte {full} 8 65535 0", "refuses 1 @ 65535 0")
+
+    def test_read(self):
+        self.says("read 0a0b0c0d 4 1 4 eeee", "gives 2 @ 3 4 | 0b0c")
+        self.says("read 0a0b0c0d 4 1 4 eeeeeeeeee",
+                  "gives 3 @ 4 4 | 0b0c0deeee")
+        self.says("read 0a0b 4 1 6 eeeeeeeeee", "gives 5 @ 6 6 | 0bffffffff")
+        self.says("read 0a0b 4 7 6 eeee", "gives 0 @ 7 6 | eeee")
+        self.says("read - 8 0 0 -", "gives 0 @ 0 0 | -")
+
+    def test_exact(self):
+        self.says("exact 0a0b0c0d 4 1 4 eeeeee", "gives @ 4 4 | 0b0c0d")
+        self.says("exact 0a0b0c0d 4 1 4 eeeeeeee",
+                  "refuses 2 @ 4 4 | 0b0c0dee")
+        self.says("exact 0a0b0c0d 4 5 4 eeee", "refuses 2 @ 5 4 | eeee")
+        self.says("exact 0a0b0c0d 4 4 4 ee", "refuses 2 @ 4 4 | ee")
+
+    def test_exact_read_of_nothing(self):
+        self.says("exact - 4 9 4 -", "gives @ 9 4 | -")
+
+    def test_odd_end(self):
+        self.says("skip 0 3 0", "refuses 14 @ 0 3")
+        self.says("byte 0a 4 0 3", "refuses 14 @ 0 3")
+        self.says("byte 0a 4 65535 3", "refuses 14 @ 65535 3")
+        self.says("read 0a 4 0 3 ee", "refuses 14 @ 0 3 | ee")
+        self.says("exact 0a 4 0 3 -", "refuses 14 @ 0 3 | -")
+        self.says("write 0a 0 3 -", "refuses 14 @ 0 3 | 0a")
+
+    def test_image_too_large(self):
+        large = "00" * 65_537
+        for line, rest in (
+                ("byte {} 4 0 2", " @ 0 2"),
+                ("read {} 4 0 2 ee", " @ 0 2 | ee"),
+                ("exact {} 4 0 2 -", " @ 0 2 | -"),
+                ("write {} 0 2 -", " @ 0 2 | " + large),
+                ("category {} 4 10", ""), ("alias {} 4", ""),
+                ("size {} 4", ""), ("setalias {} 1", " | " + large),
+                ("identity {} 4", ""), ("mailbox {} 4", ""),
+                ("general {} 4", ""), ("sms {} 4", ""), ("fmmus {} 4", ""),
+                ("fmmuex {} 4", ""), ("pdos {} 4 50", ""),
+                ("string {} 4 0 ee", " | ee"), ("name {} 4 ee", " | ee"),
+                ("desc {} 4 ee", " | ee")):
+            self.says(line.format(large), "refuses 14" + rest)
+
+    def test_write(self):
+        self.says("write 0000000000000000 2 8 616263",
+                  "gives 4 @ 6 8 | 0000616263000000")
+        self.says("write 0000000000000000 4 6 61626364",
+                  "gives 2 @ 6 6 | 0000000061620000")
+        self.says("write 0000 2 2 6162", "gives 0 @ 2 2 | 0000")
+        self.says("write 0000 0 2 -", "gives 0 @ 0 2 | 0000")
+
+    def test_write_pads_an_odd_last_byte(self):
+        self.says("write eeee 0 2 61", "gives 2 @ 2 2 | 6100")
+
+    def test_write_at_an_odd_position(self):
+        # Design, point 4.
+        self.says("write 0000000000000000 3 4 6162",
+                  "gives 2 @ 5 4 | 0000616200000000")
+
+    def test_write_past_the_image(self):
+        self.says("write 00000000 0 8 616263646566",
+                  "refuses 7 @ 4 8 | 61626364")
+        self.says("write 000000 2 8 6162", "refuses 7 @ 2 8 | 000000")
+        self.says("write - 0 2 61", "refuses 7 @ 0 2 | -")
+
+
+class Category(Case):
+    def test_found(self):
+        two = image((30, b"\x01" * 4), (10, b"\x02" * 6))
+        self.says(f"category {two} 4 30", "gives 132 136")
+        self.says(f"category {two} 4 10", "gives 140 146")
+        self.says(f"category {two} 4 60", "absent")
+
+    def test_numbers_that_may_be_sought(self):
+        for number in (10, 30, 40, 41, 42, 50, 51, 60):
+            self.says(f"category {image((number, b''))} 8 {number}",
+                      "gives 132 132")
+        for number in (0, 1, 9, 11, 20, 43, 52, 61, 65535):
+            self.says(f"category {image((number, b''))} 8 {number}",
+                      "refuses 14")
+
+    def test_header_cut_by_the_end(self):
+        # Design, point 5.
+        self.says(f"category {'00' * 129} 4 10", "refuses 1")
+        self.says(f"category {'00' * 128} 4 10", "absent")
+        self.says("category - 4 10", "absent")
+
+    def test_end_type(self):
+        self.says(f"category {image((0xFFFF, b''), (10, b''))} 4 10", "absent")
+
+    def test_32nd_empty_header_comes_before_the_end_type(self):
+        # Both are absent; one empty header more, and the search still ends.
+        empty = [(0, b"")]
+        self.says(f"category {image(*empty * 31, (0xFFFF, b''))} 4 10",
+                  "absent")
+        self.says(f"category {image(*empty * 40, (10, b'  '))} 4 10", "absent")
+
+    def test_only_empty_headers_count(self):
+        both = [(0, b""), (1, b"  ")]
+        # 31 pairs: 4 and 6 bytes each, so the strings stand at 128 + 310 + 4.
+        self.says(f"category {image(*both * 31, (10, b'  '))} 4 10",
+                  "gives 442 444")
+
+    def test_length_past_the_top(self):
+        start = bytes(128).hex()
+        # The header ends at word 0x42: 0x42 + 0xFFBD is 65,535.
+        self.says(f"category {start}{header(1, 0xFFBE).hex()} 4 10",
+                  "refuses 1")
+        self.says(f"category {start}{header(1, 0xFFBD).hex()} 4 10", "absent")
+
+    def test_range_past_the_top(self):
+        start = bytes(128).hex()
+        # 132 + 2 times 32,701 is 65,534.
+        self.says(f"category {start}{header(10, 32701).hex()} 4 10",
+                  "gives 132 65534")
+        self.says(f"category {start}{header(10, 32702).hex()} 4 10",
+                  "refuses 1")
+
+
+class ReadOuts(Case):
+    def test_alias(self):
+        self.says("alias 00000000000000003412 4", "gives 4660")
+        self.says("alias 000000000000000034 4", "gives 65332")
+        self.says("alias - 8", "gives 65535")
+
+    def test_set_alias(self):
+        # Alias 0 on zeros: the bench's 0x30.
+        self.says("setalias " + "00" * 14 + "eeee77 0",
+                  "gives | " + "00" * 14 + "300077")
+
+    def test_set_alias_sums_after_the_change(self):
+        before = bytes(range(16))
+        after = bytearray(before)
+        after[8:10] = b"\x34\x12"
+        after[14] = crc(after[:14])
+        after[15] = 0
+        self.says(f"setalias {before.hex()} 4660", "gives | " + after.hex())
+
+    def test_set_alias_on_a_short_image(self):
+        # Design, point 6.
+        self.says("setalias " + "00" * 15 + " 1", "refuses 7 | " + "00" * 15)
+        self.says("setalias - 1", "refuses 7 | -")
+
+    def test_size(self):
+        self.says("size " + "00" * 124 + "0f00 4", "gives 2048")
+        self.says("size - 4", "gives 8388608")
+
+    def test_identity(self):
+        fields = "01000000 02000000 00000080 ffffffff".replace(" ", "")
+        self.says("identity " + "00" * 16 + fields + " 4",
+                  "gives 1 2 2147483648 4294967295")
+        self.says("identity - 4", "gives" + " 4294967295" * 4)
+
+    def test_mailbox(self):
+        line = "mailbox " + "00" * 48 + "{} 4"
+        self.says(line.format("0010800080108000 3f ff".replace(" ", "")),
+                  "gives 4096 128 4224 128 63")
+        self.says(line.format("00108000801080004000"), "refuses 5")
+        self.says(line.format("00108000801080008000"), "refuses 5")
+
+    def test_mailbox_of_a_short_image(self):
+        # Design, point 8.
+        self.says("mailbox " + "00" * 56 + " 4", "refuses 5")
+        self.says("mailbox " + "00" * 57 + " 4", "gives 0 0 0 0 0")
+
+
+class General(Case):
+    def with_byte(self, place, value):
+        record = bytearray(GENERAL)
+        record[place] = value
+        return image((30, bytes(record)))
+
+    def test_fields(self):
+        # Port 3 holds 15, which has no name and becomes 0.
+        self.says(f"general {image((30, GENERAL))} 4",
+                  "gives 1 2 3 4 63 1 0 31 65336 1 3 4 0 4660")
+
+    def test_longer_category(self):
+        self.says(f"general {image((30, GENERAL + b'  '))} 4",
+                  "gives 1 2 3 4 63 1 0 31 65336 1 3 4 0 4660")
+
+    def test_not_found(self):
+        self.says("general - 4", "refuses 3")
+
+    def test_short(self):
+        self.says(f"general {image((30, GENERAL[:16]))} 4", "refuses 2")
+
+    def test_address(self):
+        self.says(f"general {'00' * 129} 4", "refuses 1")
+
+    def test_undefined_flags(self):
+        for place, value in ((5, 0x40), (5, 0x80), (11, 0x20), (11, 0x80)):
+            self.says(f"general {self.with_byte(place, value)} 4", "refuses 5")
+
+    def test_ignored_bytes(self):
+        for place in (4, 8, 9, 10):
+            self.says(f"general {self.with_byte(place, 0x55)} 4",
+                      "gives 1 2 3 4 63 1 0 31 65336 1 3 4 0 4660")
+
+    def test_decoded_past_the_image(self):
+        # The category's range goes past the image: 0xFF has undefined bits.
+        cut = image((30, GENERAL))[:-14]
+        self.says(f"general {cut} 4", "refuses 5")
+
+
+class Lists(Case):
+    MANAGER = bytes.fromhex("0010800026ff0101")
+
+    def test_no_category(self):
+        for line in ("sms - 4", "fmmus - 4", "fmmuex - 4", "pdos - 4 50",
+                     "pdos - 4 51"):
+            self.says(line, "gives 0")
+
+    def test_address(self):
+        for word in ("sms {} 4", "fmmus {} 4", "fmmuex {} 4", "pdos {} 4 50"):
+            self.says(word.format("00" * 129), "refuses 1")
+
+    def test_sync_managers(self):
+        # Control 0x26: mailbox, write, DLS event. Control 0xD9: mode 1 and
+        # direction 2 have no name, ECAT event, watchdog, bit 7 ignored.
+        other = bytes.fromhex("00000000d9000f05")
+        self.says(f"sms {image((41, self.MANAGER + other))} 4",
+                  "gives 2 4096 128 2 1 0 1 0 1 1 0 0 0 0 1 0 1 15 0")
+
+    def test_partial_record_ends_the_list(self):
+        self.says(f"sms {image((41, self.MANAGER + self.MANAGER[:6]))} 4",
+                  "gives 1 4096 128 2 1 0 1 0 1 1")
+
+    def test_sync_manager_limit(self):
+        one = " 4096 128 2 1 0 1 0 1 1"
+        self.says(f"sms {image((41, self.MANAGER * 8))} 4", "gives 8" + one * 8)
+        self.says(f"sms {image((41, self.MANAGER * 9))} 4", "refuses 6")
+        # A partial ninth is no ninth.
+        self.says(f"sms {image((41, self.MANAGER * 8 + b'      '))} 4",
+                  "gives 8" + one * 8)
+
+    def test_decoding_before_the_limit(self):
+        # Design, point 11: the 9th with a bad enable is 5.
+        bad = bytes.fromhex("0010800026ff1101")
+        self.says(f"sms {image((41, self.MANAGER * 8 + bad))} 4", "refuses 5")
+        self.says(f"sms {image((41, bad))} 4", "refuses 5")
+
+    def test_fmmus(self):
+        self.says(f"fmmus {image((40, bytes.fromhex('010203ff')))} 4",
+                  "gives 4 1 2 3 0")
+        self.says(f"fmmus {image((40, bytes.fromhex('0004')))} 4", "refuses 5")
+
+    def test_fmmus_after_the_sixteenth(self):
+        body = b"\x01" * 16 + b"\x77\x77"
+        self.says(f"fmmus {image((40, body))} 4", "gives 16" + " 1" * 16)
+        body = b"\x01" * 15 + b"\x77"
+        self.says(f"fmmus {image((40, body))} 4", "refuses 5")
+
+    def test_extended_fmmus(self):
+        self.says(f"fmmuex {image((42, bytes.fromhex('aa05bbcc')))} 4",
+                  "gives 1 5")
+        three = b"\x00\x07\x00"
+        self.says(f"fmmuex {image((42, three * 16))} 4", "gives 16" + " 7" * 16)
+        self.says(f"fmmuex {image((42, three * 17 + b' '))} 4", "refuses 6")
+
+    PDO = bytes.fromhex("001a020300000000")
+    EMPTY_PDO = bytes.fromhex("001a000300000000")
+    ENTRY = bytes.fromhex("0060010005080000")
+
+    def test_pdos(self):
+        body = self.PDO + self.ENTRY * 2 + self.EMPTY_PDO
+        for number in (50, 51):
+            self.says(f"pdos {image((number, body))} 4 {number}",
+                      "gives 2 6656 2 3 16 6656 0 3 0")
+        self.says(f"pdos {image((50, body))} 4 51", "gives 0")
+
+    def test_pdo_with_255_long_entries(self):
+        body = (bytes.fromhex("0016ff0200000000")
+                + bytes.fromhex("0000000000ff0000") * 255)
+        self.says(f"pdos {image((51, body))} 4 51", "gives 1 5632 255 2 65025")
+
+    def test_partial_pdo_header_ends_the_list(self):
+        self.says(f"pdos {image((50, self.EMPTY_PDO + self.PDO[:6]))} 4 50",
+                  "gives 1 6656 0 3 0")
+
+    def test_missing_entry(self):
+        self.says(f"pdos {image((50, self.PDO + self.ENTRY))} 4 50",
+                  "refuses 5")
+        self.says(f"pdos {image((50, self.PDO + self.ENTRY + b'    '))} 4 50",
+                  "refuses 5")
+
+    def test_pdo_limit(self):
+        one = " 6656 0 3 0"
+        self.says(f"pdos {image((50, self.EMPTY_PDO * 64))} 4 50",
+                  "gives 64" + one * 64)
+        self.says(f"pdos {image((50, self.EMPTY_PDO * 65))} 4 50", "refuses 6")
+        self.says(f"pdos {image((50, self.EMPTY_PDO * 64 + self.PDO))} 4 50",
+                  "refuses 5")
+
+    def test_no_pdo_category(self):
+        self.says("pdos - 4 52", "refuses 14")
+        self.says("pdos - 4 10", "refuses 14")
+
+
+class Strings(Case):
+    def test_index_0(self):
+        self.says("string - 4 0 ee", "absent | ee")
+        # Before the category's own refusal.
+        self.says(f"string {'00' * 129} 4 0 ee", "absent | ee")
+        self.says(f"string {'00' * 129} 4 1 ee", "refuses 1 | ee")
+
+    def test_no_category(self):
+        self.says("string - 4 1 ee", "absent | ee")
+
+    def test_room(self):
+        # Design, point 10.
+        large = "ee" * 256
+        self.says(f"string - 4 0 {large}", f"refuses 14 | {large}")
+        self.says(f"name - 4 {large}", f"refuses 14 | {large}")
+        self.says(f"desc - 4 {large}", f"refuses 14 | {large}")
+        self.says(f"string - 4 0 {large[2:]}", f"absent | {large[2:]}")
+
+    def test_too_long(self):
+        # Room and stored length, counted before zeros are dropped.
+        self.says(f"string {image((10, BENCH_STRINGS))} 4 1 eeee",
+                  "refuses 4 2 3 | eeee")
+
+    def test_too_long_before_overrun(self):
+        # Count 1, length 9, but only two bytes are left.
+        body = bytes.fromhex("01094142")
+        self.says(f"string {image((10, body))} 4 1 eeee",
+                  "refuses 4 2 9 | eeee")
+        self.says(f"string {image((10, body))} 4 1 {'ee' * 9}",
+                  "refuses 2 | " + "ee" * 9)
+
+    def test_fits_exactly(self):
+        self.says(f"string {image((10, bytes.fromhex('01024142')))} 4 1 eeee",
+                  "gives 2 | 4142")
+
+    def test_empty_room(self):
+        self.says(f"string {image((10, bytes.fromhex('0100')))} 4 1 -",
+                  "gives 0 | -")
+
+    def test_skip_onto_the_end(self):
+        # Count 1; string 1 ends with the category; string 2 can't be reached.
+        body = bytes.fromhex("01024142")
+        self.says(f"string {image((10, body))} 4 2 eeee", "refuses 2 | eeee")
+
+    def test_count_and_length_are_read_past_the_end(self):
+        # An empty strings category: the bytes after it are looked at. They
+        # are the next header: type 1, so count 1 and length 0.
+        self.says(f"string {image((10, b''), (1, b''))} 4 1 eeee",
+                  "gives 0 | eeee")
+        # Type 0x0201: length 2, and nothing may be read.
+        self.says(f"string {image((10, b''), (0x0201, b''))} 4 1 eeee",
+                  "refuses 2 | eeee")
+
+    def test_length_at_the_top(self):
+        # Strings at bytes 65,534 to 65,534: the count is read there, the
+        # length would be at 65,535.
+        start = bytes(128).hex()
+        jump = header(1, 32767 - 0x42 - 2).hex()
+        gap = "00" * (65_530 - 132)
+        full = start + jump + gap + header(10, 0).hex() + "0500"
+        self.assertEqual(len(full), 2 * 65_536)
+        self.says(f"category {full} 4 10", "gives 65534 65534")
+        self.says(f"string {full} 4 1 ee", "refuses 1 | ee")
+        self.says(f"string {full} 4 7 ee", "absent | ee")
+
+    def test_characters(self):
+        body = bytes.fromhex("01 06 00 7f 80 ff 00 01".replace(" ", ""))
+        self.says(f"string {image((10, body))} 4 1 {'ee' * 8}",
+                  "gives 4 | 7f3f3f01eeeeeeee")
+
+    def both(self, general=GENERAL):
+        # General's order index is 3, its name index 4.
+        body = bytes.fromhex("04 01 41 01 42 01 43 01 44 00".replace(" ", ""))
+        return image((10, body), (30, general))
+
+    def test_name_and_description(self):
+        self.says(f"name {self.both()} 4 eeee", "gives 1 | 43ee")
+        self.says(f"desc {self.both()} 4 eeee", "gives 1 | 44ee")
+
+    def test_without_general(self):
+        self.says("name - 4 eeee", "absent | eeee")
+        self.says("desc - 4 eeee", "refuses 3 | eeee")
+
+    def test_general_is_needed_whole(self):
+        # Design, point 9: whatever the index.
+        self.says(f"name {self.both(bytes(16))} 4 ee", "refuses 2 | ee")
+        self.says(f"desc {self.both(bytes(16))} 4 ee", "refuses 2 | ee")
+        bad = bytes(5) + b"\x40" + bytes(12)
+        self.says(f"name {self.both(bad)} 4 ee", "refuses 5 | ee")
+        self.says(f"desc {self.both(bad)} 4 ee", "refuses 5 | ee")
+        self.says(f"name {self.both(bytes(18))} 4 ee", "absent | ee")
+        self.says(f"desc {self.both(bytes(18))} 4 ee", "absent | ee")
+
+    def test_name_of_a_bad_image(self):
+        self.says(f"name {'00' * 129} 4 ee", "refuses 1 | ee")
+
+
+class Ports(Case):
+    def test_entry(self):
+        self.says("entry " + ALL_FOUR, "gives 0")
+        self.says("entry " + ports((1, 5, 0), (1, 4, 0), (1, 4, 0), None),
+                  "gives 3")
+        self.says("entry " + ports((0, 1, 0), (1, 9, 0), (1, 8, 0), (1, 7, 0)),
+                  "gives 2")
+        self.says("entry " + NO_PORTS, "refuses 9")
+
+    def test_last(self):
+        self.says("last " + ALL_FOUR, "gives 2")
+        self.says("last " + ports((1, 9, 0), (1, 8, 0), None, None), "gives 3")
+        self.says("last " + NO_PORTS, "absent")
+
+    def test_topology(self):
+        self.says("topology " + ALL_FOUR, "gives 4")
+        self.says("topology " + THREE, "gives 3")
+        self.says("topology " + ports(None, (1, 0, 0), None, (1, 0, 0)),
+                  "gives 2")
+        self.says("topology " + ports(None, (1, 0, 0), None, None), "gives 1")
+        self.says("topology " + NO_PORTS, "refuses 9")
+
+    def test_total(self):
+        self.says("total " + NO_PORTS, "absent")
+        self.says("total " + ports((1, 5, 0), None, None, (1, 5, 0)), "absent")
+        self.says("total " + ports((1, 0, 0), (1, 4294967295, 0), None, None),
+                  "gives 4294967295")
+        self.says("total " + ports((1, 9, 0), (0, 1, 0), (1, 4, 0), None),
+                  "gives 5")
+
+    def test_time_to(self):
+        self.says(f"timeto {ALL_FOUR} 0", "absent")
+        self.says(f"timeto {ALL_FOUR} 3", "gives 100")
+        self.says(f"timeto {ALL_FOUR} 1", "gives 200")
+        self.says(f"timeto {ALL_FOUR} 2", "gives 300")
+
+    def test_time_to_takes_the_largest_on_the_way(self):
+        self.says("timeto " + ports((1, 1, 0), (1, 9, 0), (1, 4, 0), None)
+                  + " 1", "gives 8")
+
+    def test_time_to_a_port_before_the_entry(self):
+        # Design, point 13.
+        late = ports((1, 9, 0), (1, 2, 0), (1, 4, 0), None)
+        self.says(f"timeto {late} 0", "absent")
+        self.says(f"timeto {late} 1", "gives 2")
+        # Port 2 isn't active and needn't be.
+        self.says(f"timeto {late} 2", "gives 2")
+
+    def test_bad_port_before_no_port(self):
+        self.says(f"timeto {NO_PORTS} 4", "refuses 10")
+        self.says(f"timeto {NO_PORTS} 3", "refuses 9")
+        self.says(f"between {NO_PORTS} 255", "refuses 10")
+
+    def test_between(self):
+        self.says(f"between {NO_PORTS} 3", "gives 0")
+        self.says(f"between {ALL_FOUR} 0", "gives 0")
+        self.says(f"between {ALL_FOUR} 3", "gives 100")
+        self.says(f"between {ALL_FOUR} 2", "gives 300")
+
+    def test_between_never_below_0(self):
+        self.says("between "
+                  + ports((1, 9, 0), (1, 2, 0), (1, 4, 0), (1, 3, 0)) + " 2",
+                  "gives 2")
+
+    def test_between_sum(self):
+        most = (1, 4294967295, 0)
+        self.says(f"between {ports((1, 0, 0), most, (1, 0, 0), most)} 2",
+                  "refuses 11")
+        self.says(f"between {ports((1, 0, 0), most, (1, 0, 0), most)} 1",
+                  "gives 4294967295")
+        self.says("between " + ports((1, 0, 0), (1, 4294967294, 0), (1, 0, 0),
+                                     (1, 1, 0)) + " 2", "gives 4294967295")
+
+    def test_linked(self):
+        some = ports((0, 0, 7), (1, 0, 8), (1, 0, 7), (1, 0, 7))
+        self.says(f"linked {some} 7", "gives 1")
+        self.says(f"linked {some} 8", "gives 3")
+        self.says(f"linked {some} 9", "absent")
+        # Design, point 12.
+        self.says(f"linked {some} 0", "refuses 14")
+        self.says(f"linked {NO_PORTS} 7", "absent")
+
+    def test_assign_link_0(self):
+        self.says(f"assign {NO_PORTS} 0", f"refuses 14 @ {NO_PORTS}")
+        self.says(f"assign {NO_PORTS} 1", f"refuses 9 @ {NO_PORTS}")
+
+    def test_assign_takes_the_entry(self):
+        # Design, point 14: active places 1 and 3, times 1 and 2.
+        self.says("assign " + ports(None, (1, 1, 0), None, (1, 2, 0)) + " 5",
+                  "gives 3 @ 0 0 0 1 1 5 0 0 0 1 2 0")
+
+    def test_assign_all_four(self):
+        # The entry is place 0, so place 1 comes first, then 2, 3, 0.
+        self.says(f"assign {ALL_FOUR} 5",
+                  "gives 3 @ 1 100 0 1 200 5 1 300 0 1 400 0")
+        linked = ports((1, 100, 0), (1, 200, 5), (1, 300, 5), (1, 400, 5))
+        self.says(f"assign {linked} 6",
+                  "gives 0 @ 1 100 6 1 200 5 1 300 5 1 400 5")
+
+    def test_times(self):
+        self.says("times " + ports((1, 0, 7), None, None, (1, 0, 0))
+                  + " 1 2 3 4294967295",
+                  "gives @ 1 1 7 0 2 0 0 3 0 1 4294967295 0")
+
+    def test_display(self):
+        # Ports 0 and 1 are at places 0 and 2.
+        text = b"ports [ open closed open closed ]".hex()
+        self.says("display " + ports((1, 0, 0), None, (1, 0, 0), None),
+                  "gives | " + text)
+        text = b"ports [ closed closed closed closed ]".hex()
+        self.says("display " + NO_PORTS, "gives | " + text)
+
+
+class Builder(Case):
+    def test_open(self):
+        self.says("open 0a0b0c", "gives @ 0 0 0 | 000000")
+        self.says("open -", "gives @ 0 0 0 | -")
+        self.says("open " + "ee" * 2047, "gives @ 0 0 0 | " + "00" * 2047)
+        self.says("open " + "ee" * 2048, "refuses 14 @ 0 0 0 | " + "ee" * 2048)
+
+    def test_push_leaves_what_is_missing(self):
+        # Data of 1, override 3: two payload bytes and the last two stay.
+        after = packed("00 09 04 03 02 01 03 00 00 00 ab") + "ee" * 9
+        self.says(f"push {'ee' * 20} 0 0 77 9 0 16909060 ab 3",
+                  f"gives 0 15 @ 15 1 0 10 | {after}")
+
+    def test_override_below_the_data(self):
+        after = packed("00 00 00 00 00 00 02 00 00 00 ab cd 00 00")
+        self.says(f"push {'00' * 14} 0 0 0 0 0 0 abcd 1",
+                  f"gives 0 14 @ 14 1 0 1 | {after}")
+
+    def test_index_wraps(self):
+        after = packed("0e ff 00 00 00 00 00 00 00 00 00 00")
+        self.says(f"push {'00' * 12} 0 0 0 255 14 0 - 0",
+                  f"gives 0 12 @ 12 1 0 0 | {after}")
+        self.says("push - 0 0 0 255 0 0 - 0", "refuses 8 @ 0 0 0 0 | -")
+
+    def test_too_long(self):
+        area = "ee" * 13
+        self.says(f"push {area} 0 0 5 1 0 0 abcd 0",
+                  f"refuses 8 @ 0 0 5 2 | {area}")
+        self.says(f"push {area} 0 0 5 1 0 0 - 65535",
+                  f"refuses 8 @ 0 0 5 2 | {area}")
+
+    def test_14_takes_no_index(self):
+        # Design, point 16.
+        area = "ee" * 20
+        self.says(f"push {area} 0 0 0 1 15 0 - 0",
+                  f"refuses 14 @ 0 0 0 1 | {area}")
+        self.says(f"rest {area} 0 0 0 1 15 0 -",
+                  f"refuses 14 @ 0 0 0 1 | {area}")
+        large = "ab" * 65_536
+        self.says(f"push {area} 0 0 0 1 0 0 {large} 0",
+                  f"refuses 14 @ 0 0 0 1 | {area}")
+        self.says(f"push {area} 0 0 0 1 0 0 {large[2:]} 0",
+                  f"refuses 8 @ 0 0 0 2 | {area}")
+        self.says(f"rest {area} 0 0 0 1 0 0 {large}",
+                  f"refuses 14 @ 0 0 0 1 | {area}")
+        self.says(f"push {'ee' * 2048} 0 0 0 1 0 0 - 0",
+                  f"refuses 14 @ 0 0 0 1 | {'ee' * 2048}")
+
+    def test_states(self):
+        for size, used, count, last, answer in (
+                (30, 0, 0, 99, "gives 1"),
+                (30, 1, 0, 0, "refuses 14"),
+                (30, 12, 1, 0, "gives 1"),
+                (30, 11, 1, 0, "refuses 14"),
+                (30, 31, 1, 0, "refuses 14"),
+                (30, 30, 1, 0, "gives 0"),
+                (30, 23, 2, 0, "refuses 14"),
+                (30, 24, 2, 14, "gives 0"),
+                (30, 24, 2, 15, "refuses 14"),
+                (30, 0, 1, 0, "refuses 14"),
+                (2047, 0, 0, 0, "gives 1"),
+                (2048, 0, 0, 0, "refuses 14"),
+                (0, 0, 0, 0, "gives 0")):
+            self.says(f"canpush {size} {used} {count} {last} 0", answer)
+
+    def test_can_push(self):
+        self.says("canpush 100 0 0 0 88", "gives 1")
+        self.says("canpush 100 0 0 0 89", "gives 0")
+        self.says("canpush 100 12 1 0 76", "gives 1")
+        self.says("canpush 100 12 1 0 77", "gives 0")
+        self.says("canpush 100 0 0 0 65535", "gives 0")
+
+    def test_more_follows_is_one_bit(self):
+        # Design, point 17: bits 11 to 13 of a handed-in area stay.
+        before = packed("00 00 00 00 00 00 00 38 00 00 00 00") + "00" * 12
+        after = (packed("00 00 00 00 00 00 00 b8 00 00 00 00")
+                 + packed("01 05 00 00 00 00 00 00 00 00 00 00"))
+        self.says(f"push {before} 12 1 0 5 1 0 - 0",
+                  f"gives 12 12 @ 24 2 12 6 | {after}")
+
+    def test_rest(self):
+        after = packed("0c 03 02 00 00 00 02 00 00 00 ab cd 00 00")
+        self.says(f"rest {'00' * 14} 0 0 0 3 12 2 abcdef",
+                  f"gives 2 0 14 @ 14 1 0 4 | {after}")
+        after = packed("0c 03 02 00 00 00 01 00 00 00 ab 00 00 00")
+        self.says(f"rest {'00' * 14} 0 0 0 3 12 2 ab",
+                  f"gives 1 0 13 @ 13 1 0 4 | {after}")
+
+    def test_rest_absent(self):
+        area = "ee" * 12
+        self.says(f"rest {area} 0 0 9 3 12 2 ab", f"absent @ 0 0 9 3 | {area}")
+        self.says(f"rest {area}ee 0 0 9 3 12 2 -",
+                  f"absent @ 0 0 9 3 | {area}ee")
+        self.says("rest - 0 0 0 3 12 2 ab", "absent @ 0 0 0 3 | -")
+        # Free less 12 would be below 0.
+        self.says(f"rest {area} 12 1 0 3 12 2 ab",
+                  f"absent @ 12 1 0 3 | {area}")
+
+    def test_header(self):
+        self.says("header 0", "gives | 0010")
+        self.says("header 2047", "gives | ff17")
+        self.says("header 2048", "refuses 14 | 0000")
+
+
+class Reader(Case):
+    EMPTY = "000000000000000000000000"
+
+    def test_no_pdus(self):
+        self.says("frame 0010", "gives 0")
+        self.says("frame 0010ee", "gives 0")
+
+    def test_header(self):
+        self.says("frame -", "refuses 12")
+        self.says("frame 00", "refuses 12")
+        self.says("frame 0020", "refuses 12")
+        self.says("frame 0000", "refuses 12")
+        # Bit 11 isn't looked at.
+        self.says("frame 0018", "gives 0")
+
+    def test_length_within_the_bytes(self):
+        self.says("frame 0c10" + self.EMPTY[2:], "refuses 12")
+        self.says("frame 0c10" + self.EMPTY, "gives 1 0 0 0 0 0 0 0 12 0")
+        self.says("frame 0c10" + self.EMPTY + "ff", "gives 1 0 0 0 0 0 0 0 12 0")
+
+    def test_fields(self):
+        # Command 0xFF and flag bits 11 to 13 aren't refused. Flags 0x7801:
+        # length 1, circulating.
+        self.says("frame 0d10" + packed("ff 07 04 03 02 01 01 78 34 12 ab cd ab"),
+                  "gives 1 255 7 16909060 1 1 0 4660 12 43981")
+
+    def test_pdu_inside(self):
+        for length in range(1, 12):
+            self.says(f"frame {length:02x}10" + self.EMPTY, "refuses 12")
+        # Length 1 in the PDU, but only 12 bytes.
+        self.says("frame 0c10" + packed("00 00 00 00 00 00 01 00 00 00 00 00"),
+                  "refuses 12")
+
+    def test_more_follows(self):
+        more = packed("00 00 00 00 00 00 00 80 00 00 00 00")
+        self.says("frame 0c10" + more, "refuses 12")
+        self.says("frame 1810" + more + self.EMPTY,
+                  "gives 2 0 0 0 0 0 1 0 12 0 0 0 0 0 0 0 0 24 0")
+        self.says("frame 1810" + self.EMPTY + self.EMPTY, "refuses 12")
+        self.says("frame 0d10" + self.EMPTY + "00", "refuses 12")
+        self.says("frame 0d10" + more + "00", "refuses 12")
+
+    def test_reads_what_was_built(self):
+        area, state, expected = "00" * 200, "0 0 0 250", []
+        place = 2
+        for number, data in enumerate(("", "ab", "cd" * 90, "0102")):
+            answer = ask(f"push {area} {state} {number} {number * 1000} "
+                         f"{data or '-'} 0")
+            said, rest = answer.split(" @ ")
+            state, area = rest.split(" | ")
+            length = len(data) // 2
+            self.assertEqual(said, f"gives {place - 2} {length + 12}")
+            expected += [number, (250 + number) % 256, number * 1000, length,
+                         0, int(number < 3), 0, place + 10, 0]
+            place += length + 12
+        used = int(state.split()[0])
+        head = ask(f"header {used}").split(" | ")[1]
+        self.says(f"frame {head}{area}",
+                  " ".join(map(str, ["gives", 4] + expected)))
+
+
+class Spreading(Case):
+    def test_bytes(self):
+        # Two areas of 14 take 2 bytes each. The last area is opened, the
+        # first is not: its working counter stays.
+        one = packed("0a ff 00 01 00 00 02 00 00 00 aa bb ee ee")
+        two = packed("0a 00 02 01 00 00 01 00 00 00 cc 00 00 00")
+        past = "ee" * 14
+        self.says(f"spread 14 {'ee' * 42} 0 0 0 255 10 256 aabbcc",
+                  f"gives 2 14 1 0 13 1 0 @ 1 | {one}{two}{past}")
+
+    def test_first_area_with_pdus(self):
+        before = "00" * 25
+        after = (packed("00 00 00 00 00 00 00 80 00 00 00 00")
+                 + packed("0b 04 00 00 00 00 01 00 00 00 aa 00 00"))
+        self.says(f"spread 25 {before} 12 1 0 4 11 0 aa",
+                  f"gives 1 25 2 12 @ 5 | {after}")
+
+    def test_empty_image(self):
+        self.says("spread 5 eeeeeeeeee 0 0 9 7 12 4294967295 -",
+                  "gives 0 @ 7 | eeeeeeeeee")
+
+    def test_address(self):
+        area = "00" * 16
+        after = packed("0c 00 fe ff ff ff 02 00 00 00 aa bb 00 00 00 00")
+        self.says(f"spread 16 {area} 0 0 0 0 12 4294967294 aabb",
+                  f"gives 1 14 1 0 @ 1 | {after}")
+        self.says(f"spread 16 {area} 0 0 0 0 12 4294967295 aabb",
+                  f"refuses 1 @ 0 | {area}")
+
+    def test_address_before_room(self):
+        self.says("spread 1 ee 0 0 0 0 12 4294967295 aabb",
+                  "refuses 1 @ 0 | ee")
+        self.says("spread 1 ee 0 0 0 0 12 4294967294 aabb",
+                  "refuses 13 @ 0 | ee")
+
+    def test_bad_arguments(self):
+        for line in ("spread 0 eeee 0 0 0 3 12 0 aa",
+                     "spread 0 - 0 0 0 3 12 0 aa",
+                     "spread 2 - 0 0 0 3 12 0 aa",
+                     "spread 3 eeee 0 0 0 3 12 0 aa",
+                     "spread 2 eeee 0 0 0 3 9 0 aa",
+                     "spread 2 eeee 0 0 0 3 13 0 -",
+                     "spread 2 eeee 1 0 0 3 12 0 -",
+                     "spread 2 eeee 3 0 0 3 12 0 -",
+                     "spread 2 " + "ee" * 66 + " 0 0 0 3 12 0 -",
+                     "spread 2048 " + "ee" * 2048 + " 0 0 0 3 12 0 aa",
+                     "spread 2 eeee 0 0 0 3 12 0 " + "ab" * 65_536,
+                     # 14 before the address rule.
+                     "spread 2 eeee 0 0 0 3 9 4294967295 aabb"):
+            areas = line.split(" ")[2]
+            self.says(line, f"refuses 14 @ 3 | {areas}")
+
+    def test_bounds_themselves(self):
+        self.starts("spread 1 " + "ee" * 32 + " 0 0 0 3 12 0 -", "gives 0 @ 3")
+        # 32 areas of 2,047 take 2,035 each: 65,120 in all.
+        areas = "00" * 2047 * 32
+        self.starts(f"spread 2047 {areas} 0 0 0 0 12 0 " + "ab" * 65_120,
+                    "gives 32" + " 2047 1 0" * 32 + " @ 32 |")
+        self.starts(f"spread 2047 {areas} 0 0 0 0 12 0 " + "ab" * 65_121,
+                    "refuses 13 @ 0 |")
+        self.starts(f"spread 2047 {areas} 0 0 0 0 12 0 " + "ab" * 65_535,
+                    "refuses 13 @ 0 |")
+
+    def test_skipped_first_area(self):
+        # Design, point 19: 12 bytes free, so its state comes back.
+        first = "11" * 24
+        piece = packed("0c 08 00 00 00 00 01 00 00 00 aa 00 00") + "00" * 11
+        self.says(f"spread 24 {first}{'22' * 24} 12 1 2 8 12 0 aa",
+                  f"gives 2 12 1 2 13 1 0 @ 9 | {first}{piece}")
+
+    def test_search_against_all_cuttings(self):
+        for free in range(0, 41):
+            for size in (free, 11, 12, 13, 14, 27, 40):
+                for count in (1, 2, 3):
+                    frees = (free,) + (size,) * (count - 1)
+                    for length in range(0, 95):
+                        self.assertEqual(spread.permitted(frees, length),
+                                         exhaustive(frees, length),
+                                         (frees, length))
+
+    def test_rule_against_search(self):
+        # The image is used up exactly when a permitted cutting exists, and
+        # the pieces read back are the image.
+        chance = random.Random(3)
+        for _ in range(300):
+            size = chance.randrange(1, 60)
+            count = chance.randrange(1, 6)
+            length = chance.randrange(0, 40 * count)
+            self.check_read_back(size, count, chance.randbytes(length))
+
+    def check_read_back(self, size, count, image_bytes):
+        areas = "ee" * size * count
+        answer = ask(f"spread {size} {areas} 0 0 0 9 10 1000 "
+                     f"{hexed(image_bytes)}")
+        if not exhaustive((size,) * count, len(image_bytes)):
+            self.assertEqual(answer, f"refuses 13 @ 9 | {areas}")
+            return
+        said, rest = answer.split(" @ ")
+        index, after = rest.split(" | ")
+        numbers = list(map(int, said.split(" ")[1:]))
+        last = numbers[0]
+        self.assertEqual(len(numbers), 1 + 3 * last)
+        self.assertEqual(int(index), 9 + last)
+        offset = 0
+        for area in range(last):
+            used, pdus, start = numbers[1 + 3 * area:4 + 3 * area]
+            self.assertEqual((pdus, start), (1, 0))
+            begin = area * size
+            frame = ((used + 0x1000).to_bytes(2, "little")
+                     + bytes.fromhex(after)[begin:begin + size])
+            fields = list(map(int, ask("frame " + frame.hex()).split()[1:]))
+            self.assertEqual(fields[:4],
+                             [1, 10, 9 + area, 1000 + offset])
+            piece = fields[4]
+            self.assertEqual(frame[fields[8]:fields[8] + piece],
+                             image_bytes[offset:offset + piece])
+            offset += piece
+        self.assertEqual(offset, len(image_bytes))
+        self.assertEqual(after[2 * size * last:], areas[2 * size * last:])
+
+
+@lru_cache(maxsize=None)
+def exhaustive(frees, length):
+    """Tries every piece and every area: the definition, word for word."""
+    if length == 0:
+        return True
+    if not frees:
+        return False
+    # The next area takes the next piece, or this one does.
+    if exhaustive(frees[1:], length):
+        return True
+    return any(
+        exhaustive((frees[0] - 12 - piece,) + frees[1:], length - piece)
+        for piece in range(1, length + 1) if piece + 12 <= frees[0])
+
+
+class Refusals(Case):
+    def test_each_number(self):
+        for number, line in (
+                (1, "new 65535 0"),
+                (2, "skip 0 0 0"),
+                (3, "general - 4"),
+                (4, f"string {image((10, bytes.fromhex('01014100')))} 4 1 -"),
+                (5, "mailbox - 4"),
+                (6, f"sms {image((41, bytes(72)))} 4"),
+                (7, "setalias - 0"),
+                (8, "push - 0 0 0 0 0 0 - 0"),
+                (9, f"entry {NO_PORTS}"),
+                (10, f"timeto {ALL_FOUR} 4"),
+                (11, "between 1 0 0 1 4294967295 0 1 0 0 1 1 0 2"),
+                (12, "frame -"),
+                (13, "spread 1 00 0 0 0 0 10 0 00"),
+                (14, "category - 4 0")):
+            self.starts(line, f"refuses {number}")
+
+
+class Lines(Case):
+    def unreadable(self, *lines):
+        for line in lines:
+            self.says(line, "refuses 14")
+
+    def test_words(self):
+        self.unreadable("", " ", "nothing", "CRC -", "crc", "crc  -", "crc - ",
+                        " crc -", "crc - -", "crc\t-", "crc -\r", "-", "14")
+
+    def test_not_text(self):
+        self.unreadable(b"\xff\xfe", b"crc \xc3\xa9", b"new 1 \xd9\xa1",
+                        b"crc \x00", b"\x00", b"crc\x00 -")
+
+    def test_hex(self):
+        self.unreadable("crc 0", "crc 000", "crc AB", "crc 0x", "crc 0g",
+                        "crc --", "crc -00", "crc 0 0", "crc 00,")
+        self.says("crc ff", "gives 0")
+
+    def test_hex_limit(self):
+        self.starts("crc " + "00" * 131_072, "gives")
+        self.unreadable("crc " + "00" * 131_073)
+
+    def test_numbers(self):
+        self.unreadable("new 65536 0", "new -1 0", "new +1 0", "new 1.0 0",
+                        "new 0x1 0", "new 1_0 0", "new  0", "new a 0",
+                        "new 99999999999999999999 0")
+        self.says("new 00003 4", "gives 6 14")
+        self.says("new " + "0" * 5000 + "3 4", "gives 6 14")
+        self.says("new " + "0" * 5000 + " 4", "gives 0 8")
+        self.unreadable("new " + "0" * 5000 + "65536 4", "new " + "1" * 5000
+                        + " 4")
+
+    def test_widths(self):
+        self.unreadable(f"timeto {ALL_FOUR} 256", f"linked {ALL_FOUR} 65536",
+                        "string - 4 256 -", "push - 0 0 0 256 0 0 - 0",
+                        "push - 0 0 0 0 256 0 - 0",
+                        "push - 0 0 0 0 0 4294967296 - 0",
+                        "push - 0 0 0 0 0 0 - 65536", "header 65536",
+                        "entry 1 4294967296 0 0 0 0 0 0 0 0 0 0",
+                        f"times {ALL_FOUR} 0 0 4294967296 0",
+                        "canpush 0 0 0 0 65536", "setalias - 65536")
+        self.says(f"timeto {ALL_FOUR} 255", "refuses 10")
+
+    def test_chunk(self):
+        self.unreadable("alias - 0", "alias - 5", "alias - 16", "alias - -",
+                        "byte 00 2 0 2", "string - 7 0 ee")
+        self.says("alias - 08", "gives 65535")
+
+    def test_no_answer_depends_on_the_chunk(self):
+        chance = random.Random(4)
+        body = chance.randbytes(30)
+        some = image((10, BENCH_STRINGS), (30, GENERAL), (41, body))
+        for line in ("byte {} {} 7 8", "read {} {} 3 140 " + "00" * 40,
+                     "exact {} {} 131 150 " + "00" * 9, "category {} {} 41",
+                     "alias {} {}", "size {} {}", "identity {} {}",
+                     "mailbox {} {}", "general {} {}", "sms {} {}",
+                     "string {} {} 1 eeeeee", "name {} {} eeeeee"):
+            self.assertEqual(ask(line.format(some, 4)),
+                             ask(line.format(some, 8)))
+
+    def test_active(self):
+        self.unreadable("entry 2 0 0 0 0 0 0 0 0 0 0 0")
+
+    def test_too_few_and_too_many(self):
+        good = ("crc 00", "new 1 2", "startat 1 2", "skip 0 2 1",
+                "byte 00 4 0 2", "read 00 4 0 2 00", "exact 00 4 0 2 00",
+                "write 00 0 2 00", "category 00 4 10", "alias 00 4",
+                "size 00 4", "setalias 00 1", "identity 00 4", "mailbox 00 4",
+                "general 00 4", "sms 00 4", "fmmus 00 4", "fmmuex 00 4",
+                "pdos 00 4 50", "string 00 4 1 00", "name 00 4 00",
+                "desc 00 4 00", f"entry {ALL_FOUR}", f"last {ALL_FOUR}",
+                f"topology {ALL_FOUR}", f"total {ALL_FOUR}",
+                f"timeto {ALL_FOUR} 1", f"between {ALL_FOUR} 1",
+                f"linked {ALL_FOUR} 1", f"assign {ALL_FOUR} 1",
+                f"times {ALL_FOUR} 1 2 3 4", f"display {ALL_FOUR}", "open 00",
+                "push 00 0 0 0 0 0 0 00 0", "rest 00 0 0 0 0 0 0 00",
+                "canpush 1 0 0 0 1", "header 1", "frame 0010",
+                "spread 1 00 0 0 0 0 10 0 -")
+        self.assertEqual({line.split(" ")[0] for line in good},
+                         {word.decode() for word in requests.TABLE})
+        for line in good:
+            self.assertNotEqual(ask(line), "refuses 14")
+            self.unreadable(line + " 0", line.rsplit(" ", 1)[0])
+
+    def test_any_line_is_answered(self):
+        chance = random.Random(5)
+        good = [f"assign {ALL_FOUR} 1", "push " + "00" * 30
+                + " 12 1 0 0 10 77 0102 0", "frame 0c10" + "00" * 12,
+                f"string {image((10, BENCH_STRINGS))} 4 2 0000",
+                f"general {image((30, GENERAL))} 8",
+                "spread 20 " + "00" * 40 + " 0 0 0 0 10 0 010203"]
+        for _ in range(3000):
+            line = bytearray(chance.choice(good).encode())
+            for _ in range(chance.randrange(1, 4)):
+                line[chance.randrange(len(line))] = chance.randrange(256)
+            first = ask(bytes(line)).split(" ")[0]
+            self.assertIn(first, ("gives", "absent", "refuses"))
+
+
+class Loop(Case):
+    def lines(self, *pieces):
+        return [line for batch in desk.line_batches(pieces) for line in batch]
+
+    def test_lines(self):
+        self.assertEqual(self.lines(), [])
+        self.assertEqual(self.lines(b"a"), [b"a"])
+        self.assertEqual(self.lines(b"a\n"), [b"a"])
+        self.assertEqual(self.lines(b"\n"), [b""])
+        self.assertEqual(self.lines(b"a\n\nb"), [b"a", b"", b"b"])
+        self.assertEqual(self.lines(b"a", b"b", b"c\nd", b"\ne"),
+                         [b"abc", b"d", b"e"])
+
+    def test_program(self):
+        asked = (b"crc 313233343536373839\n\n\xff\xfe\nnew 1 1\r\n"
+                 b"read 0a 4 0 2 eeee\nheader 28")
+        done = subprocess.run([sys.executable, HERE], input=asked,
+                              stdout=subprocess.PIPE, check=True)
+        self.assertEqual(done.stdout,
+                         b"gives 251\nrefuses 14\nrefuses 14\nrefuses 14\n"
+                         b"gives 2 @ 2 2 | 0aff\ngives | 1c10\n")
+
+
+if __name__ == "__main__":
+    unittest.main()

@@ -1,0 +1,5 @@
+pub mod Laws
+pub mod Divide
+pub mod Greedy
+pub mod Better
+pub mod Vectors

@@ -1,0 +1,4 @@
+pub mod Cut
+pub mod Divide
+pub mod Greedy
+pub mod Measure
