@@ -1,0 +1,4 @@
+pub mod Push
+pub mod Parts
+pub mod Going
+pub mod Laws
