@@ -34,7 +34,8 @@ chain-snoc (q ∷ ps) p o n c e h = (c .0, c .1, chain-snoc ps p (o + q .size) n
 
 -- ---- Rising and lastArea
 
-last-least : (lo m : ℕ) (ps : List Piece) → Rising lo m ps → lo ≤ lastArea lo ps
+-- the last is no earlier than where they start
+pub last-least : (lo m : ℕ) (ps : List Piece) → Rising lo m ps → lo ≤ lastArea lo ps
 unfolding lastArea Rising
 last-least lo m [] r = omega arith
 last-least lo m (p ∷ ps) r = omega (arith, r .0, last-least (p .area) m ps (r .2))

@@ -102,6 +102,21 @@ module _ (row : List ℕ) (size : ℕ) (first : Builder) (index command address 
   unfolding spreadOf
   is-done e f g = rw (e, f, g) refl
 
+  -- what holds of each way out holds of the rule
+  pub ways : (P : Outcome → Type 0)
+      → (bounds ≡ false → P (no 14 row index))
+      → (bounds ≡ true → reaches ≡ false → P (no 1 row index))
+      → (bounds ≡ true → reaches ≡ true → fits ≡ false → P (no 13 row index))
+      → (bounds ≡ true → reaches ≡ true → fits ≡ true → P (done run))
+      → P out
+  ways P a b c d = go bounds reaches fits refl refl refl
+    where
+      go : (x y z : Bool) → bounds ≡ x → reaches ≡ y → fits ≡ z → P out
+      go false y z p q r = rw (refused-14 p) (a p)
+      go true false z p q r = rw (refused-1 p q) (b p q)
+      go true true false p q r = rw (refused-13 p q r) (c p q r)
+      go true true true p q r = rw (is-done p q r) (d p q r)
+
   pub met-no : (r : Spreading) (x : Refusal) → out ≡ record { said = saidOf x; run = record { areas = row; states = []; next = index } }
       → r ≡ record { answer = No x; states = padded []; next = index } → Met r row
   met-no r x e q = rw (e, q) (refl, ((refl, refl), refl))

@@ -9,9 +9,10 @@ use lib.Dec.{eqb}
 use lib.ListN.{length, take, length-append, length-take, length-replicate}
 use Rattle.refusal.specs.Said.{Said, gives, absent, refuses, pick}
 use Rattle.wire.proofs.Laws.{length-overlay}
-use Rattle.pdu.specs.Pdu.{headerOf}
+use Rattle.pdu.specs.Pdu.{Pdu, headerOf}
 use Rattle.created_frame.specs.declared.Builder.{Builder}
-use Rattle.created_frame.specs.Frame.{commandMost, dataMost, sound, acceptable, marked, withPdu, handle, taken, restPushed, afterRest}
+use Rattle.created_frame.specs.Frame.{commandMost, dataMost, sound, acceptable, marked, withPdu, handle, after, taken, restPushed, restNext, afterRest}
+use Rattle.created_frame.specs.Built.{made, restAdds}
 use Rattle.created_frame.proofs.Laws.{Sound, sound-facts, length-marked}
 use Rattle.created_frame.proofs.Built.{some}
 use Rattle.created_frame.proofs.States.{accepts}
@@ -34,14 +35,24 @@ push-takes size b index command given s c g =
     go true e = sym (eqb-true _ _ e)
     go false e = refl
 
+-- .. and takes an index, and adds a PDU, where that is not 0
+pub push-next : (size : ℕ) (b : Builder) (index command given : ℕ) → sound size b ≡ true → command ≤ commandMost → given ≤ dataMost
+    → restNext size b index command given ≡ pick (eqb (taken size (b .used) given) 0) index (after index)
+unfolding restNext
+push-next size b index command given s c g = rw (accepts size b s command given 0 c g (omega arith)) refl
+
+pub push-adds : (size : ℕ) (b : Builder) (index command address : ℕ) (bytes : List ℕ) → sound size b ≡ true → command ≤ commandMost → length bytes ≤ dataMost
+    → let t = taken size (b .used) (length bytes) in
+    restAdds size b index command address bytes ≡ pick (eqb t 0) [] (made index command address (take t bytes) t ∷ [])
+unfolding restAdds
+push-adds size b index command address bytes s c g = rw (accepts size b s command (length bytes) 0 c g (omega arith)) refl
+
 -- the area keeps its length
 pub push-length : (area : List ℕ) (b : Builder) (index command address : ℕ) (bytes : List ℕ) → sound (length area) b ≡ true
     → length (afterRest area b index command address bytes) ≡ length area
 unfolding afterRest
-push-length area b index command address bytes s = go (acceptable (length area) b command (length bytes) 0) (eqb n 0) refl
+push-length area b index command address bytes s = go (acceptable (length area) b command (length bytes) 0) _ refl
   where
-    n : ℕ
-    n = taken (length area) (b .used) (length bytes)
     go : (a e : Bool) → eqb (taken (length area) (b .used) (length bytes)) 0 ≡ e
         → let n = taken (length area) (b .used) (length bytes) in
         length (pick a (pick e area (withPdu area b index command address n (take n bytes))) area) ≡ length area
