@@ -154,7 +154,7 @@ module _ (size command address : ℕ) (image : List ℕ) where
           count = suc k;
           ends = ends;
           areas-are = rw (one, here, there, ih .areas-are, dr) (sym (append-assoc (laidIn size (olds ++ restAdds size b index command (address + o) bytes))
-          (laid size [] (newsOf command address image k (suc i) (restNext size b index command (length bytes)) q)) (drop (suc k * size) row)));
+              (laid size [] (newsOf command address image k (suc i) (restNext size b index command (length bytes)) q)) (drop (suc k * size) row)));
           states-are = rw (here, there, ih .states-are, built-state _ _ _ bs) refl;
           next-is = ih .next-is ∙ rw nx (sym (piece-index (suc i) o t index q));
         })
@@ -180,6 +180,7 @@ module _ (size command address : ℕ) (image : List ℕ) where
       where
         under : {j k : ℕ} → suc (suc j) < k → suc j < k
         under lt = omega arith
+
         go : (e : Bool) → eqb (length (drop o image)) 0 ≡ e
             → let t = taken size (b .used) (length (drop o image)) in
             Laid (rowFrom size command address n (zeroed size) fresh (restNext size b index command (length (drop o image))) (o + t) (drop size row) (drop t (drop o image)))

@@ -108,9 +108,9 @@ still-there f₀ f olds ps r₀ e₀ r e =
       counted = ap length v₀ ∙ shown-length 2 olds;
       fields = rw (v₀, v) (front-kept olds ps);
       payloads =
-        rw (v₀, v) (map-take (payloadOf f) (length olds) (shownAll 2 (olds ++ ps))
-        ∙ ap (λ (z : List (List ℕ)). take (length olds) z) (e ∙ map-append (λ (p : Pdu). p .payload) olds ps)
-        ∙ take-at (map (λ (p : Pdu). p .payload) olds) (map (λ (p : Pdu). p .payload) ps) (length olds) (length-map olds (λ (p : Pdu). p .payload)) ∙ sym e₀);
+          rw (v₀, v) (map-take (payloadOf f) (length olds) (shownAll 2 (olds ++ ps))
+          ∙ ap (λ (z : List (List ℕ)). take (length olds) z) (e ∙ map-append (λ (p : Pdu). p .payload) olds ps)
+          ∙ take-at (map (λ (p : Pdu). p .payload) olds) (map (λ (p : Pdu). p .payload) ps) (length olds) (length-map olds (λ (p : Pdu). p .payload)) ∙ sym e₀);
     }
 
 -- ---- the row

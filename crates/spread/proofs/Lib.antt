@@ -8,3 +8,5 @@ pub mod Plan
 pub mod Greedy
 pub mod Unique
 pub mod Theorem
+pub mod Kept
+pub mod Bench

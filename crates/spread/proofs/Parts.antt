@@ -84,7 +84,10 @@ module _ (xs image : List ℕ) (at size : ℕ) (b : Builder) (index command addr
   pushed-at h k e₁ e₂ e₃ e₄ =
       let t : given ≡ drop from image = take-all (length image - from) (drop from image) (simp length-drop (omega arith)) in
       let p : lent ≡ take size (drop at xs) = part-is at size xs in
-      let l : length lent ≡ size = ap length p ∙ part-length at size xs h in
-      (e₁ ∙ rw (l, t) refl,
-        ((e₂ .0 ∙ rw (l, t) refl, e₂ .1 ∙ rw (l, t) refl),
-          overlay-part at (at + size - at) xs left _ (e₃ ∙ rw (p, t) refl) (e₄ ∙ l ∙ sym (add-sub-cancel-left at size))))
+      let l : length lent ≡ size = ap length p ∙ part-length at size xs h in (
+        e₁ ∙ rw (l, t) refl,
+        (
+          (e₂ .0 ∙ rw (l, t) refl, e₂ .1 ∙ rw (l, t) refl),
+          overlay-part at (at + size - at) xs left _ (e₃ ∙ rw (p, t) refl) (e₄ ∙ l ∙ sym (add-sub-cancel-left at size)),
+        ),
+      )

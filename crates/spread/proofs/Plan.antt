@@ -163,8 +163,10 @@ module _ (command address : ℕ) (image : List ℕ) where
         own : (b : Bool) → b ≡ true → pick b (p .size + 12) 0 + load (p .area) ps ≤ 2047 → p .size + 12 ≤ 2047
         own true e h = omega arith
         own false e h = let z : _≡_ {A = ℕ} 0 1 = cc in absurd (let w : ⊥ = omega arith in w)
+
         rest : (j : ℕ) → pick (eqb (p .area) j) (p .size + 12) 0 + load j ps ≤ 2047 → load j ps ≤ 2047
         rest j h = omega arith
+
         go : (b : Bool) → p .size + 12 ≤ 2047 → o + p .size ≤ n → AllFit (inArea command address image k (after index) ps)
             → AllFit (pick b (pduOf command address image index p ∷ inArea command address image k (after index) ps) (inArea command address image k (after index) ps))
         go true small end ih = (
@@ -199,5 +201,6 @@ module _ (command address : ℕ) (image : List ℕ) where
             go : (b : Bool) → load k ps ≤ pick b (size - used) size → load k ps ≤ 2047
             go true h = omega arith
             go false h = omega arith
+
         later : (k : ℕ) → 1 < k → load k ps ≤ size
         later k h = rw (free-later (size - used) size k h) at (p .fits k)

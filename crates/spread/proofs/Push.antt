@@ -4,7 +4,7 @@ use mathlib.Core.Bool.{Bool, true, false}
 use mathlib.Core.List.{List, [], _∷_, _++_}
 use Prim.Native.Nat.{ℕ, zero, suc, _+_, _-_, _≤_, _<_, min}
 use native.Mathlib.Omega.{arith}
-use borrow.Author.Tests.{eqb-true}
+use borrow.Author.Tests.{eqb-true, eq-eqb}
 use lib.Dec.{eqb}
 use lib.ListN.{length, take, length-append, length-take, length-replicate}
 use Rattle.refusal.specs.Said.{Said, gives, absent, refuses, pick}
@@ -34,6 +34,12 @@ push-takes size b index command given s c g =
         → firstOf (pick e absent (gives (taken size (b .used) given ∷ handle b (taken size (b .used) given) index command))) ≡ taken size (b .used) given
     go true e = sym (eqb-true _ _ e)
     go false e = refl
+
+-- .. and is absent where that is 0
+pub push-none : (size : ℕ) (b : Builder) (index command given : ℕ) → sound size b ≡ true → command ≤ commandMost → given ≤ dataMost
+    → taken size (b .used) given ≡ 0 → restPushed size b index command given ≡ absent
+unfolding restPushed
+push-none size b index command given s c g z = rw (accepts size b s command given 0 c g (omega arith), eq-eqb (taken size (b .used) given) 0 z) refl
 
 -- .. and takes an index, and adds a PDU, where that is not 0
 pub push-next : (size : ℕ) (b : Builder) (index command given : ℕ) → sound size b ≡ true → command ≤ commandMost → given ≤ dataMost

@@ -1,9 +1,9 @@
 // A process image spread over a row of areas of one size: one logical PDU for each area that has room (document 01, 'Frames', second paragraph).
 // The Rust leaves this to its callers. The definitions are in specs/Row.antt; what holds of them, demand 3, in specs/Theorem.antt.
-use refusal::Refusal;
 use created_frame::Builder;
 use created_frame::Rest;
 use created_frame::RestPush;
+use refusal::Refusal;
 ghost use mathlib.Core.Path.{_≡_};
 ghost use Prim.Native.Nat.{_+_, _-_, _*_, _≤_};
 ghost use mathlib.Core.List.{[]};

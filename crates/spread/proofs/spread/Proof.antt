@@ -25,6 +25,12 @@ facts c =
     let a = c .before .before .before .before .args in
     law (length (a .areas .now)) (a .size) (a .first) (a .command) (length (a .image .now)) (passed c)
 
+-- .. or are not
+failed : (c : tie.Else1) →
+    let a = c .before .before .before .before .args in
+    lawful (length (a .areas .now)) (a .size) (a .first) (a .command) (length (a .image .now)) ≡ false
+failed c = sym (c .before .is-lawful .ensures) ∙ c .if1 .left
+
 -- .. and so are the addresses
 reached : (c : tie.Then2) →
     let a = c .before .before .before .before .before .args in
@@ -111,7 +117,7 @@ returns-4 c =
     let t = c .before in
     let a = t .before .before .before .before .args in
     met-no (a .areas .now) (a .size) (a .first) (a .index) (a .command) (a .address) (a .image .now) (c .refused3 .result) BadArgument
-    (refused-14 (a .areas .now) (a .size) (a .first) (a .index) (a .command) (a .address) (a .image .now) (sym (t .before .is-lawful .ensures) ∙ t .if1 .left))
+    (refused-14 (a .areas .now) (a .size) (a .first) (a .index) (a .command) (a .address) (a .image .now) (failed t))
     (c .refused3 .ensures)
 
 pub spread-spec : {M : Type 1} → statement M
