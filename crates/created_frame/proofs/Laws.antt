@@ -1,7 +1,7 @@
 -- Laws of the definitions that the contracts cite: what an accepted state is, how a PDU is laid, and each way out of a push.
 use mathlib.Core.Path.{_≡_, refl, sym, ap, _∙_}
 use mathlib.Core.Bool.{Bool, true, false, _&&_}
-use mathlib.Core.List.{List, [], _∷_, _++_}
+use mathlib.Core.List.{List}
 use Prim.Native.Nat.{ℕ, _+_, _*_, _%_, _^_, _≤_, _<_, max}
 use native.Mathlib.Omega.{arith}
 use borrow.Author.Tests.{leb-true, eqb-true, le-leb, lt-leb, eq-eqb, ne-eqb}
@@ -14,6 +14,7 @@ use Rattle.wire.specs.Bytes.{overlay, laid}
 use Rattle.wire.proofs.Laws.{length-overlay, overlay-next, laid-whole}
 use Rattle.pdu.specs.Pdu.{areaMost, pduOverhead, headerBytes, headerOf}
 use Rattle.created_frame.specs.declared.Builder.{Builder}
+use Rattle.created_frame.specs.declared.PduResponseHandle.{PduResponseHandle}
 use Rattle.created_frame.specs.declared.Push.{Push}
 use Rattle.created_frame.specs.declared.Pushed.the-variants as pushing
 use Rattle.created_frame.specs.declared.RestPush.{RestPush}
@@ -92,6 +93,15 @@ pdu-laid xs ys zs ws head bytes b index command address len r y d z w =
     let k : length zs ≡ length ys = ap length e ∙ length-overlay ys (b .used) h (omega arith) in
     w ∙ laid-whole zs (b .used + 10) bytes (omega arith) ∙ rw (e, y) (overlay-next (marked xs (b .count) (b .last)) (b .used) h bytes (omega (arith, length-marked xs (b .count) (b .last))))
 
+-- where there is room for a PDU
+pub has-room : (size : ℕ) (b : Builder) (len given : ℕ) → Sound size b → b .used + (len + 12) ≤ size → given ≤ len → Roomy size b len given
+has-room size b len given s h g = record { small = s .small; fits = h; given-fits = g; counted = s .counted; header-in = s .header-in }
+
+-- what has it in an area has it in the largest
+pub in-largest : (size : ℕ) (b : Builder) (len given : ℕ) → Roomy size b len given → Roomy areaMost b len 0
+in-largest size b len given r =
+    record { small = omega arith; fits = omega arith; given-fits = omega arith; counted = r .counted; header-in = r .header-in }
+
 -- ---- the three ways out of a push: the answer, the state and the index, and the area
 
 module _ (xs : List ℕ) (b : Builder) (index command address : ℕ) (bytes : List ℕ) (over : ℕ) where
@@ -101,28 +111,30 @@ module _ (xs : List ℕ) (b : Builder) (index command address : ℕ) (bytes : Li
       × (((r .builder ≡ pushedBuilder (length xs) b command (length bytes) over) × (r .next ≡ pushedNext (length xs) b index command (length bytes) over))
       × (ys ≡ afterPush xs b index command address bytes over))
 
-  pub is-bad : acceptable (length xs) b command (length bytes) over ≡ false → Met (record { answer = pushing.No BadArgument; builder = b; next = index }) xs
+  pub is-bad : (r : Push) → acceptable (length xs) b command (length bytes) over ≡ false
+      → r ≡ record { answer = pushing.No BadArgument; builder = b; next = index } → Met r xs
   unfolding pushed pushedBuilder pushedNext afterPush
-  is-bad e = (simp e, ((simp e, simp e), simp e))
+  is-bad r e q = rw q (simp e, ((simp e, simp e), simp e))
 
-  pub is-too-long : (len next : ℕ) → acceptable (length xs) b command (length bytes) over ≡ true
+  pub is-too-long : (r : Push) (len next : ℕ) → acceptable (length xs) b command (length bytes) over ≡ true
       → len ≡ max (length bytes) over → next ≡ (index + 1) % 2 ^ 8 → length xs < b .used + (len + 12)
-      → Met (record { answer = pushing.No TooLong; builder = b; next = next }) xs
+      → r ≡ record { answer = pushing.No TooLong; builder = b; next = next } → Met r xs
   unfolding pushed pushedBuilder pushedNext afterPush room
-  is-too-long len next e m n h =
+  is-too-long r len next e m n h q =
       let f : leb (b .used + (max (length bytes) over + 12)) (length xs) ≡ false =
       lt-leb (b .used + (max (length bytes) over + 12)) (length xs) (omega arith) in
-      (simp (e, f), ((simp (e, f), rw n (simp e)), simp (e, f)))
+      rw q (simp (e, f), ((simp (e, f), rw n (simp e)), simp (e, f)))
 
-  pub is-done : (len next : ℕ) (ys : List ℕ) → acceptable (length xs) b command (length bytes) over ≡ true
+  pub is-done : (len next : ℕ) (ys : List ℕ) (h : PduResponseHandle) (c : Builder) → acceptable (length xs) b command (length bytes) over ≡ true
       → len ≡ max (length bytes) over → next ≡ (index + 1) % 2 ^ 8 → b .used + (len + 12) ≤ length xs
       → ys ≡ withPdu xs b index command address len bytes
-      → Met (record { answer = pushing.Done (record { start = b .used; size = len + 12; index = index; command = command }); builder = grown b len; next = next }) ys
+      → h ≡ record { start = b .used; size = len + 12; index = index; command = command } → c ≡ grown b len
+      → Met (record { answer = pushing.Done h; builder = c; next = next }) ys
   unfolding pushed pushedBuilder pushedNext afterPush room
-  is-done len next ys e m n h q =
+  is-done len next ys h c e m n i q u v =
       let f : leb (b .used + (max (length bytes) over + 12)) (length xs) ≡ true =
       le-leb (b .used + (max (length bytes) over + 12)) (length xs) (omega arith) in
-      (rw m (simp (e, f)), ((rw m (simp (e, f)), rw n (simp e)), rw (q, m) (simp (e, f))))
+      (rw (u, m) (simp (e, f)), ((rw (v, m) (simp (e, f)), rw n (simp e)), rw (q, m) (simp (e, f))))
 
 -- ---- the three ways out of a push of as much as fits
 
@@ -133,22 +145,24 @@ module _ (xs : List ℕ) (b : Builder) (index command address : ℕ) (bytes : Li
       × (((r .builder ≡ restBuilder (length xs) b command (length bytes)) × (r .next ≡ restNext (length xs) b index command (length bytes)))
       × (ys ≡ afterRest xs b index command address bytes))
 
-  pub rest-bad : acceptable (length xs) b command (length bytes) 0 ≡ false → RestMet (record { answer = resting.No BadArgument; builder = b; next = index }) xs
+  pub rest-bad : (r : RestPush) → acceptable (length xs) b command (length bytes) 0 ≡ false
+      → r ≡ record { answer = resting.No BadArgument; builder = b; next = index } → RestMet r xs
   unfolding restPushed restBuilder restNext afterRest
-  rest-bad e = (simp e, ((simp e, simp e), simp e))
+  rest-bad r e q = rw q (simp e, ((simp e, simp e), simp e))
 
-  pub rest-absent : (n : ℕ) → acceptable (length xs) b command (length bytes) 0 ≡ true
-      → n ≡ taken (length xs) (b .used) (length bytes) → n ≡ 0 → RestMet (record { answer = resting.Absent; builder = b; next = index }) xs
+  pub rest-absent : (r : RestPush) (n : ℕ) → acceptable (length xs) b command (length bytes) 0 ≡ true
+      → n ≡ taken (length xs) (b .used) (length bytes) → n ≡ 0 → r ≡ record { answer = resting.Absent; builder = b; next = index } → RestMet r xs
   unfolding restPushed restBuilder restNext afterRest
-  rest-absent n e m z =
+  rest-absent r n e m z q =
       let f : eqb (taken (length xs) (b .used) (length bytes)) 0 ≡ true = eq-eqb (taken (length xs) (b .used) (length bytes)) 0 (sym m ∙ z) in
-      (simp (e, f), ((simp (e, f), simp (e, f)), simp (e, f)))
+      rw q (simp (e, f), ((simp (e, f), simp (e, f)), simp (e, f)))
 
-  pub rest-done : (n next : ℕ) (ys : List ℕ) → acceptable (length xs) b command (length bytes) 0 ≡ true
+  pub rest-done : (n next : ℕ) (ys : List ℕ) (h : PduResponseHandle) (c : Builder) → acceptable (length xs) b command (length bytes) 0 ≡ true
       → n ≡ taken (length xs) (b .used) (length bytes) → (n ≡ 0 → ⊥) → next ≡ (index + 1) % 2 ^ 8
       → ys ≡ withPdu xs b index command address n (take n bytes)
-      → RestMet (record { answer = resting.Done n (record { start = b .used; size = n + 12; index = index; command = command }); builder = grown b n; next = next }) ys
+      → h ≡ record { start = b .used; size = n + 12; index = index; command = command } → c ≡ grown b n
+      → RestMet (record { answer = resting.Done n h; builder = c; next = next }) ys
   unfolding restPushed restBuilder restNext afterRest
-  rest-done n next ys e m z o q =
-      let f : eqb (taken (length xs) (b .used) (length bytes)) 0 ≡ false = ne-eqb (taken (length xs) (b .used) (length bytes)) 0 (λ h. z (m ∙ h)) in
-      (rw m (simp (e, f)), ((rw m (simp (e, f)), rw o (simp (e, f))), rw (q, m) (simp (e, f))))
+  rest-done n next ys h c e m z o q u v =
+      let f : eqb (taken (length xs) (b .used) (length bytes)) 0 ≡ false = ne-eqb (taken (length xs) (b .used) (length bytes)) 0 (λ t. z (m ∙ t)) in
+      (rw (u, m) (simp (e, f)), ((rw (v, m) (simp (e, f)), rw o (simp (e, f))), rw (q, m) (simp (e, f))))

@@ -6,7 +6,7 @@ use Prim.Native.Nat.{ℕ, zero, suc, _+_, _-_, _*_, _%_, _≤_, _<_, max, min}
 use native.Mathlib.Omega.{arith}
 use borrow.Author.Tests.{leb-true, le-leb, ne-eqb}
 use lib.Dec.{leb, eqb}
-use lib.ListN.{length}
+use lib.ListN.{length, take}
 use Rattle.refusal.specs.Said.{Said, gives, absent, refuses, pick}
 use Rattle.pdu.specs.Pdu.{areaMost}
 use Rattle.created_frame.specs.declared.Builder.{Builder}
@@ -73,6 +73,20 @@ module _ (size : ℕ) (b : Builder) (s : sound size b ≡ true) where
       go true e = let z : _≡_ {A = ℕ} 0 1 = cc in omega arith
       go false e = let z : _≡_ {A = ℕ} 0 1 = cc in omega arith
 
+  -- a push of as much as fits, where it is accepted, by the bytes that go in
+  module _ (index command given : ℕ) (c : command ≤ commandMost) (g : given ≤ dataMost) where
+    pub rest-said : restPushed size b index command given ≡ pick (eqb (taken size (b .used) given) 0) absent (gives (taken size (b .used) given ∷ handle b (taken size (b .used) given) index command))
+    unfolding restPushed
+    rest-said = rw (accepts command given 0 c g (omega arith)) refl
+
+    pub rest-state : restBuilder size b command given ≡ pick (eqb (taken size (b .used) given) 0) b (grown b (taken size (b .used) given))
+    unfolding restBuilder
+    rest-state = rw (accepts command given 0 c g (omega arith)) refl
+
+    pub rest-next : restNext size b index command given ≡ pick (eqb (taken size (b .used) given) 0) index (after index)
+    unfolding restNext
+    rest-next = rw (accepts command given 0 c g (omega arith)) refl
+
 -- ---- a refused push
 
 -- at 14 nothing is changed, at 8 the index alone
@@ -97,7 +111,13 @@ push-refused xs b index command address bytes over number l e = go _ _ refl refl
         let n : 14 ≡ number = cc in
         record { area-kept = simp p; state-kept = simp p; index-next = rw (← n) (simp p) }
 
--- ---- a push of as much as fits that is absent or refused
+-- ---- a push of as much as fits: the area, where it is accepted; and all, where it is absent or refused
+
+pub rest-area : (xs : List ℕ) (b : Builder) (index command address : ℕ) (bytes : List ℕ) → sound (length xs) b ≡ true → command ≤ commandMost → length bytes ≤ dataMost
+    → let n = taken (length xs) (b .used) (length bytes) in
+    afterRest xs b index command address bytes ≡ pick (eqb n 0) xs (withPdu xs b index command address n (take n bytes))
+unfolding afterRest
+rest-area xs b index command address bytes s c g = rw (accepts (length xs) b s command (length bytes) 0 c g (omega arith)) refl
 
 pub record RestUnchanged (xs : List ℕ) (b : Builder) (index command address : ℕ) (bytes : List ℕ) : Type 0 where
   pub area-kept : afterRest xs b index command address bytes ≡ xs

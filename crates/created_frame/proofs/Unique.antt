@@ -3,7 +3,7 @@ use mathlib.Core.Path.{_≡_, refl, sym, ap, _∙_}
 use mathlib.Core.Bool.{Bool, true, false}
 use mathlib.Core.List.{List}
 use Prim.Native.Nat.{ℕ, suc}
-use lib.ListN.{getD, drop}
+use lib.ListN.{getD}
 use lib.Dec.{eqb}
 use Rattle.refusal.specs.Said.{Said, gives, absent, refuses}
 use Rattle.refusal.specs.declared.Refusal.the-variants.{BadArgument}

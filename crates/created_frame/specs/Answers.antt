@@ -1,9 +1,7 @@
 -- Each answer on paper: document 01's number and values for each case. Definitions only.
 use Prim.Native.Nat.{ℕ}
-use mathlib.Core.Bool.{Bool, true, false}
 use mathlib.Core.List.{List, [], _∷_}
-use Rattle.refusal.specs.Said.{Said, gives, absent, refuses, saidOf, pick}
-use Rattle.created_frame.specs.declared.Builder.{Builder}
+use Rattle.refusal.specs.Said.{Said, gives, absent, saidOf, pick}
 use Rattle.created_frame.specs.declared.PduResponseHandle.{PduResponseHandle}
 use Rattle.created_frame.specs.declared.Opened.{Opened}
 use Rattle.created_frame.specs.declared.Opened.the-variants as opening

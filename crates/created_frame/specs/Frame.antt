@@ -1,7 +1,7 @@
 -- What a push answers, and what it leaves: the area's bytes, the builder's state, the index counter (document 01, 'Frames'). Definitions only.
-use Prim.Native.Nat.{ℕ, _+_, _-_, _*_, _/_, _%_, _≤_, _<_, min, max}
+use Prim.Native.Nat.{ℕ, _+_, _-_, _*_, _%_, _≤_, _<_, min, max}
 use mathlib.Core.List.{List, [], _∷_, _++_}
-use mathlib.Core.Bool.{Bool, true, false, _&&_}
+use mathlib.Core.Bool.{Bool, _&&_}
 use lib.ListN.{length, take, set, replicate}
 use lib.Dec.{leb, eqb}
 use Rattle.refusal.specs.Said.{Said, gives, absent, refuses, pick}
@@ -137,9 +137,12 @@ afterOpen xs = pick (leb (length xs) areaMost) (replicate (length xs) 0) xs
 unfoldable pub canPush : ℕ → Builder → ℕ → Said
 canPush size b len = pick (sound size b && leb len dataMost) (gives (pick (room size b len) 1 0 ∷ [])) (refuses 14 [])
 
--- what writing a PDU is asked with: it fits, and so does the header of the one before
+-- ---- inside the builder
+
+-- what writing a PDU is asked with: it fits, and the state is sound
 pub record Roomy (size : ℕ) (b : Builder) (len given : ℕ) : Type 0 where
   pub small : size ≤ areaMost
   pub fits : b .used + (len + pduOverhead) ≤ size
   pub given-fits : given ≤ len
+  pub counted : pduOverhead * b .count ≤ b .used
   pub header-in : 0 < b .count → b .last + headerBytes ≤ b .used

@@ -13,7 +13,7 @@ use Rattle.wire.specs.Bytes.{byteAt, le16, le32, bytes16}
 use Rattle.pdu.specs.declared.PduFields.{PduFields}
 use Rattle.pdu.specs.Pdu.{Pdu, Fits, flagsOf, head, pduBytes, follows, layout, AllFit, frameHeader}
 use Rattle.pdu.specs.Read.{lengthOf, pduEnd, rightly, Places, good, bad, before, placesAt, frameOf, seenAt, payloadOf, Reading, read, readOf, shown, shownAll, starts, withMore, Extends, same, one-more}
-use Rattle.pdu.specs.Grammar.{WellFormed}
+use Rattle.pdu.specs.Grammar.{pduFrom, WellFormed}
 use Rattle.pdu.proofs.Laws.{byte-behind, rightly-last, rightly-more, body-last, body-more, places-step, frame-none, frame-some, read-as}
 use Rattle.pdu.proofs.Rows.{pdu-length, layout-none, layout-one, layout-length, follows-most}
 
@@ -22,6 +22,11 @@ use Rattle.pdu.proofs.Rows.{pdu-length, layout-none, layout-one, layout
 module _ (n e m : ℕ) (nb : n < 2048) (eb : e < 16) where
   pub flags-length : lengthOf (flagsOf n e m) ≡ n
   flags-length = omega arith
+
+  pub flags-extra : flagsOf n e m / 2048 % 16 ≡ e
+  flags-extra =
+      let q : flagsOf n e m / 2048 ≡ e + 16 * m = omega arith in
+      rw q (omega arith)
 
   pub flags-circulated : flagsOf n e m / 16384 % 2 ≡ e / 8
   flags-circulated = omega arith
@@ -91,7 +96,15 @@ module _ (pre t : List ℕ) (p : Pdu) (m : ℕ) (fit : Fits p) (mb : m ≤ 1) (s
   pub payload-of : payloadOf s (shown i p m) ≡ p .payload
   unfolding payloadOf
   payload-of =
-      rw (e, at, drop-append-add pre (pduBytes p m ++ t) 10, append-assoc) (take-at (p .payload) (bytes16 (p .counter) ++ t) (length (p .payload)) refl)
+      rw (e, at, drop-append-add pre (pduBytes p m ++ t) 10, append-assoc (p .payload) (bytes16 (p .counter)) t) (take-at (p .payload) (bytes16 (p .counter) ++ t) (length (p .payload)) refl)
+
+  pub stands-at : pduFrom s i ≡ p
+  unfolding byteAt payloadOf
+  stands-at =
+      let l = length (p .payload) in
+      let n = flags-length l (p .extra) m (fit .payload-fits) (fit .extra-fits) in
+      let x = flags-extra l (p .extra) m (fit .payload-fits) (fit .extra-fits) in
+      rw (flags-of, n, x, here (i + 1) 1 refl, address-of, irq-of, counter-of, payload-of, here i 0 (omega arith)) refl
 
   pub seen-at : seenAt s i ≡ shown i p m
   unfolding seenAt byteAt
@@ -133,20 +146,22 @@ places (q ∷ ps) p pre t s f i end fit e at to fuel =
     (omega arith) in
     rw (d .2, fl) (body-more _ i end (flagsOf l (p .extra) 1) (rightly-laid (q ∷ ps) p i end (fit .0) (omega arith)) (λ z. omega arith) ∙ ap (before i) (ap (λ (z : ℕ). placesAt (d .0) s z end) k ∙ rest))
 
--- what is seen at them, and their payloads
+-- what is seen at them, their payloads, and the PDUs themselves
 pub seen-all : (ps : List Pdu) (pre t s : List ℕ) (i : ℕ) → AllFit ps → s ≡ pre ++ (layout ps ++ t) → i ≡ length pre
     → (map (seenAt s) (starts i ps) ≡ shownAll i ps) × (map (payloadOf s) (shownAll i ps) ≡ map (λ (p : Pdu). p .payload) ps)
+    × (map (pduFrom s) (starts i ps) ≡ ps)
 unfolding AllFit layout starts shownAll
-seen-all [] pre t s i fit e at = (refl, refl)
+seen-all [] pre t s i fit e at = (refl, refl, refl)
 seen-all (p ∷ ps) pre t s i fit e at =
     let m = follows ps in
     let here : s ≡ pre ++ (pduBytes p m ++ (layout ps ++ t)) = e ∙ ap (λ (z : List ℕ). pre ++ z) (append-assoc (pduBytes p m) (layout ps) t) in
     let one = seen-at pre (layout ps ++ t) p m (fit .0) (follows-most ps) s here i at in
     let bytes = payload-of pre (layout ps ++ t) p m (fit .0) (follows-most ps) s here i at in
+    let itself = stands-at pre (layout ps ++ t) p m (fit .0) (follows-most ps) s here i at in
     let rest = seen-all ps (pre ++ pduBytes p m) t s (i + (12 + length (p .payload))) (fit .1)
     (here ∙ sym (append-assoc pre (pduBytes p m) (layout ps ++ t)))
     (omega (arith, length-append pre (pduBytes p m), pdu-length p m)) in
-    (rw (one, rest .0) refl, rw (bytes, rest .1) refl)
+    (rw (one, rest .0) refl, rw (bytes, rest .1) refl, rw (itself, rest .2) refl)
 
 -- ---- a frame of PDUs
 
@@ -162,25 +177,34 @@ module _ (s : List ℕ) (ps : List Pdu) (w : WellFormed s ps) where
       ap length split ∙ length-append (take 2 s) (layout ps ++ w .after)
       ∙ (let t = two in let a = length-append (layout ps) (w .after) in omega arith)
 
--- no well-formed frame is refused: its PDUs are read, in order, with all fields
-pub well-read : (s : List ℕ) (ps : List Pdu) → WellFormed s ps → readOf s ≡ read (shownAll 2 ps)
-unfolding shownAll starts
-well-read s [] w =
-    let z : lengthOf (le16 s 0) ≡ 0 = w .length-is ∙ layout-none in
-    read-as s [] [] (frame-none s (w .header-there) (w .type-one) z) refl
-well-read s (p ∷ ps) w =
+pub well-places : (s : List ℕ) (ps : List Pdu) → WellFormed s ps → frameOf s ≡ good (starts 2 ps)
+unfolding starts
+well-places s [] w = frame-none s (w .header-there) (w .type-one) (w .length-is ∙ layout-none)
+well-places s (p ∷ ps) w =
     let k = length (layout (p ∷ ps)) in
     let n : lengthOf (le16 s 0) ≡ k = w .length-is in
     let pos : 0 < k = omega (arith, layout-length p ps) in
     let fits : k + 2 ≤ length s = omega (arith, split-length s (p ∷ ps) w) in
-    let f : frameOf s ≡ good (starts 2 (p ∷ ps)) =
     frame-some s (w .header-there) (w .type-one) (omega arith) (λ z. omega arith)
-    ∙ places ps p (take 2 s) (w .after) s (length s) 2 (lengthOf (le16 s 0) + 2) (w .fit) (split s (p ∷ ps) w) (sym (two s (p ∷ ps) w)) (omega arith) (omega arith) in
-    read-as s (starts 2 (p ∷ ps)) (shownAll 2 (p ∷ ps)) f (seen-all (p ∷ ps) (take 2 s) (w .after) s 2 (w .fit) (split s (p ∷ ps) w) (sym (two s (p ∷ ps) w)) .0)
+    ∙ places ps p (take 2 s) (w .after) s (length s) 2 (lengthOf (le16 s 0) + 2) (w .fit) (split s (p ∷ ps) w) (sym (two s (p ∷ ps) w)) (omega arith) (omega arith)
+
+-- no well-formed frame is refused: its PDUs are read, in order, with all fields
+pub well-read : (s : List ℕ) (ps : List Pdu) → WellFormed s ps → readOf s ≡ read (shownAll 2 ps)
+well-read s ps w = read-as s (starts 2 ps) (shownAll 2 ps) (well-places s ps w) (seen-all ps (take 2 s) (w .after) s 2 (w .fit) (split s ps w) (sym (two s ps w)) .0)
 
 -- .. and their payloads are where they are said to be
 pub well-payloads : (s : List ℕ) (ps : List Pdu) → WellFormed s ps → map (payloadOf s) (shownAll 2 ps) ≡ map (λ (p : Pdu). p .payload) ps
 well-payloads s ps w = seen-all ps (take 2 s) (w .after) s 2 (w .fit) (split s ps w) (sym (two s ps w)) .1
+
+-- bytes are a frame of one row of PDUs only
+pub well-one : (s : List ℕ) (ps qs : List Pdu) → WellFormed s ps → WellFormed s qs → ps ≡ qs
+well-one s ps qs v w =
+    let a : good (starts 2 ps) ≡ good (starts 2 qs) = sym (well-places s ps v) ∙ well-places s qs w in
+    let b : starts 2 ps ≡ starts 2 qs = cc in
+    sym (stands s ps v) ∙ ap (map (pduFrom s)) b ∙ stands s qs w
+  where
+    stands : (s : List ℕ) (ps : List Pdu) (w : WellFormed s ps) → map (pduFrom s) (starts 2 ps) ≡ ps
+    stands s ps w = seen-all ps (take 2 s) (w .after) s 2 (w .fit) (split s ps w) (sym (two s ps w)) .2
 
 -- ---- a frame that is built: the header, PDUs, and whatever comes after
 

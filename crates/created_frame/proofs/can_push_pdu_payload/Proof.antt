@@ -5,7 +5,6 @@ use mathlib.Core.Path.{_≡_, sym, _∙_}
 use mathlib.Core.Bool.{true}
 use Prim.Native.Nat.{_+_}
 use native.Mathlib.Omega.{arith}
-use native.Mathlib.Nat.{add-assoc}
 use Rattle.created_frame.specs.Frame.{sound, room, canPush}
 use Rattle.created_frame.proofs.Laws.{Sound, sound-facts}
 use Rattle.created_frame.proofs.can_push_pdu_payload.Statement.{statement}
@@ -30,14 +29,14 @@ unfolding canPush
 returns-2 c = simp (passed (c .before), lt-leb _ _ (c .if2 .taken))
 
 add-t8 : tie.Need-add-t8
-add-t8 c = let f = facts (c .before .before) in omega arith
+add-t8 c = let f = facts (c .before) in omega arith
 
 add-t9 : tie.Need-add-t9
 add-t9 c = let f = facts (c .before .before) in omega arith
 
 returns-3 : tie.Need-returns-3
 unfolding canPush room
-returns-3 c = simp (passed (c .before .before), le-leb _ _ (c .before .if2 .left), add-assoc)
+returns-3 c = simp (passed (c .before .before), le-leb _ _ (c .before .if2 .left))
 
 pub can-push-pdu-payload-spec : {M : Type 1} → statement M
 can-push-pdu-payload-spec =

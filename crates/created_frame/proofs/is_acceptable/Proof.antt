@@ -1,3 +1,4 @@
+-- `created_frame::is_acceptable` tests what its definition tests, one by one.
 use borrow.Author.Needs.{needs}
 use borrow.Author.Tests.{le-leb, lt-leb, not-true, not-false}
 use mathlib.Core.Path.{sym}

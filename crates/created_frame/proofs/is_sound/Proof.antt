@@ -1,7 +1,5 @@
--- `frame::is_sound` meets its contract: the code's tests are the definition's, one by one.
-use mathlib.Core.Path.{_≡_, refl, sym}
+-- `created_frame::is_sound` tests what its definition tests, one by one; 12 for each PDU is a division, so that no product can wrap.
 use Prim.Native.Nat.{_+_, _*_}
-use borrow.Author.Needs.{needs}
 use native.Mathlib.Omega.{arith}
 use borrow.Author.Tests.{le-leb, lt-leb, eq-eqb, ne-eqb}
 use Rattle.created_frame.specs.Frame.{sound}
