@@ -16,6 +16,7 @@ use Rattle.created_frame.specs.declared.RestPush.{RestPush}
 use Rattle.created_frame.specs.Answers.{saidRest}
 use Rattle.created_frame.specs.Frame.{sound, fresh, taken, restPushed, restBuilder, restNext, afterRest}
 use Rattle.created_frame.proofs.States.{opened-sound}
+use Rattle.created_frame.proofs.Whole.{length-after-rest}
 use Rattle.cuts.proofs.Laws.{row-cap}
 use Rattle.cuts.specs.Measure.{cap}
 use Rattle.spread.specs.declared.SpreadAnswer.{SpreadAnswer}
@@ -23,7 +24,7 @@ use Rattle.spread.specs.declared.SpreadAnswer.the-variants.{Last}
 use Rattle.spread.specs.declared.Spreading.{Spreading}
 use Rattle.spread.specs.Answers.{firstOf}
 use Rattle.spread.specs.Row.{zeroed, Run, stopped, rowFrom, roomIn, padded, Fillable}
-use Rattle.spread.proofs.Push.{zeroed-length, push-takes, push-length}
+use Rattle.spread.proofs.Push.{zeroed-length, push-takes}
 use Rattle.spread.proofs.Parts.{take-overlay, drop-overlay, middle-overlay, overlay-again}
 use Rattle.spread.proofs.Laws.{padded-none}
 
@@ -148,7 +149,7 @@ module _ (count size command address : ℕ) (image : List ℕ) (whole : Run) whe
           ∙ push-takes size b i command (length (drop sent image)) sd (omega (arith, g .command-most)) (omega (arith, bytes-length, g .given-most))
 
       A-length : length A ≡ size
-      A-length = push-length area b i command (address + sent) (drop sent image) (rw al sd) ∙ al
+      A-length = length-after-rest area b i command (address + sent) (drop sent image) ∙ al
 
       laid : at + length A ≤ length areas
       laid = omega (arith, A-length, area-fits)
@@ -339,7 +340,7 @@ module _ (count size command address : ℕ) (image : List ℕ) where
       ap (λ (x : List ℕ). take size (drop at x)) e₁ ∙ ap (λ (n : ℕ). take n (drop at (overlay areas at (zeroed size)))) (sym z) ∙ middle-overlay areas at (zeroed size) h in
       let sd : sound size fresh ≡ true = opened-sound size (g .size-most) in
       let left = afterRest (zeroed size) fresh i command (address + sent) (drop sent image) in
-      let ll : length left ≡ size = push-length (zeroed size) fresh i command (address + sent) (drop sent image) (rw z sd) ∙ z in
+      let ll : length left ≡ size = length-after-rest (zeroed size) fresh i command (address + sent) (drop sent image) ∙ z in
       let y : ys ≡ overlay areas at left = e₄ ∙ rw (mid, e₀, e₁) (overlay-again areas at (zeroed size) h left (ll ∙ sym z)) in
       going-step count size command address image whole (zeroed size) fresh areas states k at sent i g more ys r n states₁ z sd y
       (e₂ ∙ rw e₀ refl) (e₃ .0 ∙ rw e₀ refl, e₃ .1 ∙ rw e₀ refl) e₅ e₆

@@ -22,7 +22,9 @@ use Rattle.created_frame.specs.Built.{made, restAdds, Built}
 use Rattle.created_frame.proofs.Built.{built-open, built-rest, built-sound, some}
 use Rattle.spread.specs.Row.{zeroed, Run, rowFrom}
 use Rattle.spread.specs.Laid.{laidIn, stateOf, laid, statesOf, inArea, newsOf, indexPast}
-use Rattle.spread.proofs.Push.{zeroed-length, push-next, push-adds, push-length}
+use Rattle.created_frame.proofs.States.{rest-next}
+use Rattle.created_frame.proofs.Whole.{length-after-rest}
+use Rattle.spread.proofs.Push.{zeroed-length, push-adds}
 use Rattle.spread.proofs.Going.{row-more, row-stop}
 use Rattle.spread.proofs.Laid.{built-laid, built-state}
 use Rattle.spread.proofs.Plan.{none-in, news-later}
@@ -138,7 +140,7 @@ module _ (size command address : ℕ) (image : List ℕ) where
         let k : ℕ = ih .count in
         let ends : lastArea i (piece (suc i) o t q) - i ≡ suc k =
         ap (λ (z : List Piece). lastArea i z - i) (sym plan) ∙ last-next free d i o (length bytes) pos enough ∙ rw (tm, ← dl) (ap suc (ih .ends)) in
-        let nx : restNext size b index command (length bytes) ≡ pick (eqb t 0) index (after index) = push-next size b index command (length bytes) sd c most in
+        let nx : restNext size b index command (length bytes) ≡ pick (eqb t 0) index (after index) = rest-next size b sd index command (length bytes) c most in
         let ad : restAdds size b index command (address + o) bytes ≡ pick (eqb t 0) [] (made index command (address + o) (take t bytes) t ∷ []) = push-adds size b index command (address + o) bytes sd c most in
         let here : inArea command address image (suc i) index (piece (suc i) o t q) ≡ restAdds size b index command (address + o) bytes =
         piece-in command address image (suc i) o t index q (λ j. greedy-none command address image free d (suc i) (o + t) (length (drop t bytes)) j) ∙ sym ad in
@@ -146,7 +148,7 @@ module _ (size command address : ℕ) (image : List ℕ) where
         piece-news command address image k (suc i) (suc i) o t index q (le-refl (suc (suc i))) ∙ rw nx refl in
         let bs : Built (olds ++ restAdds size b index command (address + o) bytes) (afterRest area b index command (address + o) bytes) (restBuilder size b command (length bytes)) =
         rw al at (built-rest olds area b h index command (address + o) bytes reached) in
-        let ll : length (afterRest area b index command (address + o) bytes) ≡ size = push-length area b index command (address + o) bytes (rw al sd) ∙ al in
+        let ll : length (afterRest area b index command (address + o) bytes) ≡ size = length-after-rest area b index command (address + o) bytes ∙ al in
         let one : afterRest area b index command (address + o) bytes ≡ laidIn size (olds ++ restAdds size b index command (address + o) bytes) =
         rw ll at (built-laid (olds ++ restAdds size b index command (address + o) bytes) _ _ bs) in
         let dr : drop (k * size) (drop size row) ≡ drop (suc k * size) row = behind-one k size row in

@@ -11,10 +11,11 @@ use lib.ListN.{length, take, drop, length-append, length-drop}
 use lib.Seq.{drop-at, drop-drop, length-take-le, take-at}
 use Rattle.refusal.specs.Said.{Said, gives, refuses, pick}
 use Rattle.created_frame.specs.declared.Builder.{Builder}
-use Rattle.created_frame.specs.Frame.{sound, fresh, taken, restBuilder, restNext, afterRest}
-use Rattle.created_frame.proofs.States.{opened-sound, rest-absent-kept}
+use Rattle.created_frame.specs.Frame.{fresh, taken, restBuilder, restNext, afterRest}
+use Rattle.created_frame.proofs.States.{rest-absent-kept}
 use Rattle.spread.specs.Row.{zeroed, Run, stopped, rowFrom, roomIn, Outcome}
-use Rattle.spread.proofs.Push.{zeroed-length, push-length, push-none}
+use Rattle.created_frame.proofs.Whole.{length-after-rest}
+use Rattle.spread.proofs.Push.{zeroed-length, push-none}
 use Rattle.spread.proofs.Going.{area-in, row-more, row-stop}
 use Rattle.spread.proofs.Laws.{Lawful, law, out, run, bounds, reaches, fits, ways}
 
@@ -44,15 +45,15 @@ one-area n size all h =
     let e : suc n * size ≡ n * size + size = suc-mul n size in
     (omega arith, omega arith)
 
-module _ (size command address : ℕ) (small : size ≤ 2047) where
-  row-kept : (n : ℕ) (area : List ℕ) (b : Builder) (index o : ℕ) (row bytes : List ℕ) → length area ≡ size → sound size b ≡ true → n * size ≤ length row
+module _ (size command address : ℕ) where
+  row-kept : (n : ℕ) (area : List ℕ) (b : Builder) (index o : ℕ) (row bytes : List ℕ) → length area ≡ size → n * size ≤ length row
       → Kept size row (rowFrom size command address n area b index o row bytes)
   unfolding rowFrom
-  row-kept zero area b index o row bytes al sd m = kept-none size row index
-  row-kept (suc n) area b index o row bytes al sd m =
+  row-kept zero area b index o row bytes al m = kept-none size row index
+  row-kept (suc n) area b index o row bytes al m =
       let w = one-area n size (length row) m in
       let t = taken size (b .used) (length bytes) in
-      go (eqb (length bytes) 0) (w .0) (row-kept n (zeroed size) fresh (restNext size b index command (length bytes)) (o + t) (drop size row) (drop t bytes) (zeroed-length size) (opened-sound size small) (simp length-drop (w .1)))
+      go (eqb (length bytes) 0) (w .0) (row-kept n (zeroed size) fresh (restNext size b index command (length bytes)) (o + t) (drop size row) (drop t bytes) (zeroed-length size) (simp length-drop (w .1)))
     where
       go : (e : Bool) → size ≤ length row
           → let t = taken size (b .used) (length bytes) in
@@ -60,7 +61,7 @@ module _ (size command address : ℕ) (small : size ≤ 2047) where
           Kept size (drop size row) rest
           → Kept size row (pick e (stopped row index) (record { areas = afterRest area b index command (address + o) bytes ++ rest .areas; states = restBuilder size b command (length bytes) ∷ rest .states; next = rest .next }))
       go true m ih = kept-none size row index
-      go false m ih = kept-one size row (afterRest area b index command (address + o) bytes) (restBuilder size b command (length bytes)) _ (push-length area b index command (address + o) bytes (rw al sd) ∙ al) m ih
+      go false m ih = kept-one size row (afterRest area b index command (address + o) bytes) (restBuilder size b command (length bytes)) _ (length-after-rest area b index command (address + o) bytes ∙ al) m ih
 
 module _ (row : List ℕ) (size : ℕ) (first : Builder) (index command address : ℕ) (image : List ℕ) where
   -- THEOREM: areas past the answer aren't touched, whatever the first area held
@@ -68,8 +69,8 @@ module _ (row : List ℕ) (size : ℕ) (first : Builder) (index command address 
   past-kept =
       ways row size first index command address image (λ (o : Outcome). Kept size row (o .run)) (λ p. kept-none size row index) (λ p q. kept-none size row index) (λ p q r. kept-none size row index)
       (λ p q r. (let f = law (length row) size first command (length image) p in
-      row-kept size command address (f .size-most) (length row / size) (take size row) first index 0 row image
-      (length-take-le size row (whole-fits f)) (f .first-sound) (omega (arith, f .row-whole))))
+      row-kept size command address (length row / size) (take size row) first index 0 row image
+      (length-take-le size row (whole-fits f)) (omega (arith, f .row-whole))))
     where
       whole-fits : Lawful (length row) size first command (length image) → size ≤ length row
       whole-fits f = omega (arith, area-in 0 (length row / size) size (length row) (f .areas-some) (f .row-whole))

@@ -1,6 +1,7 @@
 // A process image spread over a row of areas of one size: one logical PDU for each area that has room (document 01, 'Frames', second paragraph).
 // The Rust leaves this to its callers. The definitions are in specs/Row.antt; what holds of them, demand 3, in specs/Theorem.antt.
 use created_frame::Builder;
+use created_frame::PDU_OVERHEAD_BYTES;
 use created_frame::Rest;
 use created_frame::RestPush;
 use refusal::Refusal;
@@ -15,6 +16,19 @@ ghost use Rattle.created_frame.specs.Answers.{saidRest};
 ghost use Rattle.spread.specs.Answers.{saidLast, firstOf};
 ghost use Rattle.spread.specs.declared.SpreadAnswer.the-variants.{Last, No};
 ghost use Rattle.spread.specs.Row.{zeroed, rowFrom, lawful, roomIn, padded, spreadOf, Fillable};
+
+const AREA_MOST: usize = 2047;
+
+const AREAS_MOST: usize = 32;
+
+const IMAGE_MOST: usize = 65535;
+
+// LRD, LWR, LRW.
+const COMMAND_LEAST: u8 = 10;
+
+const COMMAND_LAST: u8 = 12;
+
+const ADDRESS_END: usize = 4294967296;
 
 // What a spreading answers.
 pub enum SpreadAnswer {
@@ -51,7 +65,7 @@ pub fn spread(
     let total = areas.len();
     let given = image.len();
     if is_lawful(total, size, first, command, given) {
-        if given + (address as usize) <= 4294967296 {
+        if given + (address as usize) <= ADDRESS_END {
             let count = total / size;
             let used = first.used;
             if given <= room_for(count, size, used) {
@@ -74,7 +88,7 @@ fn is_lawful(total: usize, size: usize, first: Builder, command: u8, given: usiz
     if size < 1 {
         return false;
     }
-    if 2047 < size {
+    if AREA_MOST < size {
         return false;
     }
     if total % size != 0 {
@@ -84,16 +98,16 @@ fn is_lawful(total: usize, size: usize, first: Builder, command: u8, given: usiz
     if count < 1 {
         return false;
     }
-    if 32 < count {
+    if AREAS_MOST < count {
         return false;
     }
-    if 65535 < given {
+    if IMAGE_MOST < given {
         return false;
     }
-    if command < 10 {
+    if command < COMMAND_LEAST {
         return false;
     }
-    if 12 < command {
+    if COMMAND_LAST < command {
         return false;
     }
     created_frame::is_sound(size, first)
@@ -114,8 +128,8 @@ fn room_for(count: usize, size: usize, used: usize) -> usize
     requires { ⌜ (1 ≤ count) × (count ≤ 32) × (size ≤ 2047) ⌝ }
     ensures { λ r. ⌜ r ≡ roomIn count size used ⌝ }
 {
-    let later = monus(size, 12);
-    monus(monus(size, used), 12) + (count - 1) * later
+    let later = monus(size, PDU_OVERHEAD_BYTES);
+    monus(monus(size, used), PDU_OVERHEAD_BYTES) + (count - 1) * later
 }
 
 fn empty() -> Builder
