@@ -13,7 +13,7 @@ use Rattle.pdu.proofs.Reading.{frame-read, frame-payloads}
 use Rattle.created_frame.specs.declared.Builder.{Builder}
 use Rattle.created_frame.specs.Built.{Built}
 use Rattle.created_frame.proofs.Built.{built-length, built-read, built-payloads}
-use Rattle.spread.specs.Laid.{laidIn, stateOf, laid, statesOf, Fitting}
+use Rattle.spread.specs.Laid.{laidIn, stateOf, laid, statesOf, Fitting, AllBuilt}
 use Rattle.spread.specs.ReadBack.{frameOf, framesOf, fieldsOf, fieldsIn, AllRead, Back, backAt, readBack, Kept, same, more-follows, StillThere}
 use Rattle.spread.proofs.Lists.{map-append, map-drop, map-take}
 
@@ -22,6 +22,12 @@ use Rattle.spread.proofs.Lists.{map-append, map-drop, map-take}
 pub laid-length : (size : ℕ) (ps : List Pdu) → length (layout ps) ≤ size → length (laidIn size ps) ≡ size
 unfolding laidIn
 laid-length size ps h = omega (arith, length-append (layout ps) (replicate (size - length (layout ps)) 0), length-replicate {A = ℕ} (size - length (layout ps)) 0)
+
+-- it is as our builder leaves one
+pub laid-built : (size : ℕ) (ps : List Pdu) → size ≤ 2047 → length (layout ps) ≤ size → AllFit ps → Built ps (laidIn size ps) (stateOf ps)
+unfolding laidIn
+laid-built size ps m h fit =
+    record { free = size - length (layout ps); bytes = refl; small = omega (arith, laid-length size ps h); used-is = refl; count-is = refl; last-is = refl; fit = fit }
 
 -- what our builder leaves is laid, and its state is the PDUs'
 module _ (ps : List Pdu) (xs : List ℕ) (b : Builder) (h : Built ps xs b) where
@@ -149,6 +155,15 @@ module _ (size : ℕ) (m : size ≤ 2047) where
       let y = laid size [] pss ++ rest in
       let r = one-read size (olds ++ ps) y m (f .0) (f .1) in
       rw (row-split olds ps pss rest, next-area (olds ++ ps) y (f .0)) (r ∙ ap (λ (z : Reading). read (fieldsOf z)) (sym r), laid-accepted [] pss rest (f .2))
+
+  -- .. and each area is one of our builder's
+  pub all-built : (olds : List Pdu) (pss : List (List Pdu)) (rest : List ℕ) → Fitting size olds pss → AllBuilt size olds pss (laid size olds pss ++ rest)
+  unfolding Fitting AllBuilt
+  all-built olds [] rest f = tt
+  all-built olds (ps ∷ pss) rest f =
+      let y = laid size [] pss ++ rest in
+      let t : take size (laidIn size (olds ++ ps) ++ y) ≡ laidIn size (olds ++ ps) = take-at (laidIn size (olds ++ ps)) y size (laid-length size (olds ++ ps) (f .0)) in
+      rw (row-split olds ps pss rest, next-area (olds ++ ps) y (f .0), t) (laid-built size (olds ++ ps) m (f .0) (f .1), all-built [] pss rest (f .2))
 
   -- .. and the PDUs behind `olds` are read back, in order
   pub laid-back : (i : ℕ) (olds : List Pdu) (pss : List (List Pdu)) (rest : List ℕ) → Fitting size olds pss

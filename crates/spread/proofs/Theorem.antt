@@ -31,7 +31,7 @@ use Rattle.spread.specs.Answers.{saidLast}
 use Rattle.spread.proofs.Laws.{Lawful, law, out, run, bounds, reaches, fits, Met, ways}
 use Rattle.spread.proofs.Going.{area-in}
 use Rattle.spread.proofs.Unique.{answer-unique}
-use Rattle.spread.proofs.Laid.{count-states, length-laid, laid-accepted, laid-back, laid-earlier}
+use Rattle.spread.proofs.Laid.{count-states, length-laid, laid-accepted, all-built, laid-back, laid-earlier}
 use Rattle.spread.proofs.Plan.{news-length, news-back, carriedBy, carried-whole, carried-pieces, carried-numbered, carried-count, fitting}
 use Rattle.spread.proofs.Greedy.{Laid, run-laid}
 
@@ -69,6 +69,7 @@ module _ (row : List ℕ) (size : ℕ) (first : Builder) (index command address 
         earlier = λ f fs e. rw count (laid-earlier size small olds news rest row first f fs news-fit (rw f₀ at (built-read olds (take size row) first h)) (rw f₀ at (built-payloads olds (take size row) first h)) (rw (a, s) at e));
         areas-are = a;
         states-are = s;
+        built = rw a (all-built size small olds news rest news-fit);
       }
 
 -- ---- the rule
@@ -153,7 +154,7 @@ module _ (row : List ℕ) (size : ℕ) (first : Builder) (index command address 
   -- ---- THE THEOREMS, of the rule
 
   -- an answer that is no refusal spreads the image
-  answered-built : (olds : List Pdu) (k : ℕ) → Built olds (take size row) first → told ≡ gives (k ∷ []) → Spreads row size first index command address image olds (out row size first index command address image .run) k
+  pub answered-built : (olds : List Pdu) (k : ℕ) → Built olds (take size row) first → told ≡ gives (k ∷ []) → Spreads row size first index command address image olds (out row size first index command address image .run) k
   answered-built olds k h =
       ways row size first index command address image (λ (o : Outcome). o .said ≡ gives (k ∷ []) → Spreads row size first index command address image olds (o .run) k)
       (λ p e. absurd (sized _ _ _ e)) (λ p q e. absurd (sized _ _ _ e)) (λ p q r e. absurd (sized _ _ _ e))
@@ -185,14 +186,18 @@ module _ (row : List ℕ) (size : ℕ) (first : Builder) (index command address 
   -- ---- THE THEOREMS, of the call: r is its result, and ys the row as it leaves it
 
   module _ (r : Spreading) (ys : List ℕ) (met : Met row size first index command address image r ys) where
-    pub call-spreads : (olds : List Pdu) (k : ℕ) → Ours olds (take size row) first → r .answer ≡ Last k
+    pub call-spreads-built : (olds : List Pdu) (k : ℕ) → Built olds (take size row) first → r .answer ≡ Last k
         → Spreads row size first index command address image olds (record { areas = ys; states = take k (r .states); next = r .next }) k
     unfolding padded
-    call-spreads olds k o e =
-        let s = answered olds k o (sym (met .0) ∙ ap saidLast e) in
+    call-spreads-built olds k h e =
+        let s = answered-built olds k h (sym (met .0) ∙ ap saidLast e) in
         let l : length (out row size first index command address image .run .states) ≡ k = s .carries .counted ∙ ap (lastArea 0) (sym (s .carries .plan)) ∙ s .last in
         let t : take k (r .states) ≡ out row size first index command address image .run .states = ap (take k) (met .1 .0 .0) ∙ take-at _ _ k l in
         rw (t, met .1 .0 .1, met .1 .1) s
+
+    pub call-spreads : (olds : List Pdu) (k : ℕ) → Ours olds (take size row) first → r .answer ≡ Last k
+        → Spreads row size first index command address image olds (record { areas = ys; states = take k (r .states); next = r .next }) k
+    call-spreads olds k o = call-spreads-built olds k (ours-built o)
 
     pub call-refused : (x : Refusal) → r .answer ≡ No x → (r .states ≡ padded []) × (r .next ≡ index) × (ys ≡ row)
     call-refused x e =
