@@ -1,7 +1,6 @@
 -- Document 01, 'Measured on the bench', the spreading's line, and the edges of the rule: from the definitions by computation.
 use mathlib.Core.Path.{_≡_, refl}
-use mathlib.Core.List.{List, [], _∷_, _++_}
-use mathlib.Core.Bool.{Bool, true, false}
+use mathlib.Core.List.{[], _∷_}
 use Prim.Native.Nat.{ℕ}
 use lib.ListN.{replicate}
 use Rattle.refusal.specs.Said.{Said, gives, refuses}

@@ -1,18 +1,18 @@
 -- Areas laid with PDUs are read back as these: one frame by the reader's own theorem, the row by going along it. An area of our builder is one.
 use mathlib.Core.Path.{_≡_, refl, ap, sym, _∙_}
-use Prim.Native.Nat.{ℕ, zero, suc, _+_, _*_, _-_, _≤_, _<_}
+use Prim.Native.Nat.{ℕ, suc, _+_, _*_, _-_, _≤_}
 use native.Mathlib.Omega.{arith}
 use native.Mathlib.Nat.{suc-mul, zero-mul}
 use mathlib.Core.List.{List, [], _∷_, _++_, append-assoc, append-nil, map}
 use lib.ListN.{length, take, drop, replicate, length-append, length-replicate, length-map}
 use lib.Seq.{take-at, drop-at, take-all}
 use Rattle.pdu.specs.declared.PduFields.{PduFields}
-use Rattle.pdu.specs.Pdu.{Pdu, follows, layout, lastAt, AllFit, frameHeader}
+use Rattle.pdu.specs.Pdu.{Pdu, follows, layout, AllFit, frameHeader}
 use Rattle.pdu.specs.Read.{Reading, read, readOf, shown, shownAll, payloadOf, withMore}
 use Rattle.pdu.proofs.Reading.{frame-read, frame-payloads}
 use Rattle.created_frame.specs.declared.Builder.{Builder}
 use Rattle.created_frame.specs.Built.{Built}
-use Rattle.created_frame.proofs.Built.{built-length, built-read, built-payloads}
+use Rattle.created_frame.proofs.Built.{built-length}
 use Rattle.spread.specs.Laid.{laidIn, stateOf, laid, statesOf, Fitting, AllBuilt}
 use Rattle.spread.specs.ReadBack.{frameOf, framesOf, fieldsOf, fieldsIn, AllRead, Back, backAt, readBack, Kept, same, more-follows, StillThere}
 use Rattle.spread.proofs.Lists.{map-append, map-drop, map-take}

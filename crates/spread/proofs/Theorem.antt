@@ -1,21 +1,19 @@
 -- Demand 3, of the rule and then of the call: the run carries out the greedy plan, its areas are laid with the plan's PDUs, and these read back as the plan's pieces.
 use mathlib.Core.Path.{_≡_, refl, sym, ap, _∙_}
-use mathlib.Core.Bool.{Bool, true, false, false≢true}
+use mathlib.Core.Bool.{true, false, false≢true}
 use mathlib.Core.List.{List, [], _∷_, _++_}
-use Prim.Native.Nat.{ℕ, zero, suc, _+_, _-_, _*_, _/_, _≤_, _<_}
+use Prim.Native.Nat.{ℕ, _+_, _-_, _*_, _/_, _≤_}
 use native.Mathlib.Omega.{arith}
 use native.Mathlib.Nat.{sub-zero, mul-le-mul-right}
 use borrow.Author.Tests.{leb-true, le-leb}
-use lib.Dec.{leb}
 use lib.ListN.{length, take, drop, length-take, length-append, length-drop}
 use lib.Seq.{take-take, take-at, drop-at, length-take-le}
 use Rattle.refusal.specs.Said.{Said, gives, refuses, numberOf, valuesOf}
 use Rattle.refusal.specs.declared.Refusal.{Refusal}
 use Rattle.refusal.specs.declared.Refusal.the-variants.{NoRoom}
-use Rattle.pdu.specs.Pdu.{Pdu, layout}
-use Rattle.cuts.specs.Cut.{Piece, Permitted, lastArea, freeOf}
-use Rattle.cuts.specs.Greedy.{greedyFrom, greedy}
-use Rattle.cuts.specs.Measure.{cap}
+use Rattle.pdu.specs.Pdu.{Pdu}
+use Rattle.cuts.specs.Cut.{Piece, Permitted, lastArea}
+use Rattle.cuts.specs.Greedy.{greedy}
 use Rattle.cuts.proofs.Laws.{rising-last, last-most, free-later}
 use Rattle.cuts.proofs.Greedy.{carried, carries, greedy-best}
 use Rattle.created_frame.specs.declared.Builder.{Builder}
@@ -23,9 +21,9 @@ use Rattle.created_frame.specs.Built.{Ours, Built}
 use Rattle.created_frame.proofs.Built.{ours-built, built-length, built-read, built-payloads}
 use Rattle.spread.specs.declared.Spreading.{Spreading}
 use Rattle.spread.specs.declared.SpreadAnswer.the-variants.{Last, No}
-use Rattle.spread.specs.Row.{addressEnd, Run, stopped, rowFrom, lawful, freeIn, roomIn, padded, Outcome, done, no, spreadOf}
+use Rattle.spread.specs.Row.{addressEnd, Run, stopped, freeIn, roomIn, padded, Outcome, spreadOf}
 use Rattle.spread.specs.Laid.{laid, statesOf, newsOf, indexPast, Fitting}
-use Rattle.spread.specs.ReadBack.{frameOf, framesOf, readBack, joined, piecesOf, Back}
+use Rattle.spread.specs.ReadBack.{frameOf}
 use Rattle.spread.specs.Theorem.{back, Carries, Spreads}
 use Rattle.spread.specs.Answers.{saidLast}
 use Rattle.spread.proofs.Laws.{Lawful, law, out, run, bounds, reaches, fits, Met, ways}

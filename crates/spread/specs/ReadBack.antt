@@ -1,6 +1,6 @@
 -- What the frame reader finds in the areas of a row, as they stand. Definitions only.
 use mathlib.Core.Path.{_≡_}
-use Prim.Native.Nat.{ℕ, zero, suc, _+_}
+use Prim.Native.Nat.{ℕ, suc, _+_}
 use mathlib.Core.List.{List, [], _∷_, _++_, map}
 use lib.ListN.{length, take, drop}
 use Rattle.pdu.specs.declared.PduFields.{PduFields}
