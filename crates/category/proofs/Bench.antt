@@ -3,7 +3,7 @@ use Prim.Native.Nat.{ℕ, _+_, _*_}
 use mathlib.Core.Path.{_≡_, refl}
 use mathlib.Core.List.{List, [], _∷_, _++_}
 use lib.ListN.{replicate}
-use Rattle.refusal.specs.Said.{Said, gives, absent, refuses}
+use Rattle.refusal.specs.Said.{gives, absent, refuses}
 use Rattle.wire.specs.Bytes.{byteAt}
 use Rattle.eeprom.specs.Image.{within}
 use Rattle.eeprom.specs.Range.{newSaid}

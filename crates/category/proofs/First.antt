@@ -5,34 +5,35 @@ use native.Mathlib.Omega.{arith}
 use mathlib.Core.Path.{_≡_, refl, sym, ap, _∙_}
 use mathlib.Core.List.{List, [], _∷_}
 use mathlib.Core.Bool.{Bool, true, false}
-use borrow.Author.Tests.{le-leb, ltb-false, leb-true, leb-false, eqb-true}
+use borrow.Author.Tests.{ltb-false, leb-true, leb-false, eqb-true}
 use lib.Dec.{ltb, leb, eqb}
 use Rattle.refusal.specs.Said.{Said, gives, absent, refuses, pick}
 use Rattle.eeprom.specs.Image.{endMost}
 use Rattle.eeprom.specs.Range.{newSaid}
+use Rattle.eeprom.proofs.Laws.{new-gives, new-refuses}
 use Rattle.category.specs.Layout.{firstHeader, headerWords, typeAt, lengthAt, endMark, wordMost}
 use Rattle.category.specs.Category.{emptyMost, counted, Stepped, done, next, decided, stepped, follow, searchOver, searchFrom, searched}
 use Rattle.category.specs.First.{HeaderAt, first, behind, FirstOf}
-use Rattle.category.proofs.Laws.{Passes, step-passes, search-step, search-match, search-other, search-first, counted-more}
+use Rattle.category.proofs.Laws.{Passes, step-passes, search-match, search-other, search-first, counted-more}
 
 -- ---- a range that is given
 
-new-gives : (w n pos end : ℕ) → pos ≡ 2 * w → end ≡ pos + 2 * n → end ≤ endMost → newSaid w n ≡ gives (pos ∷ end ∷ [])
-unfolding newSaid
-new-gives w n pos end p e h =
-    let k : 2 * w + 2 * n ≤ endMost = omega arith in
-    rw (le-leb _ _ k, e, p)
+range-gives : (w n pos end : ℕ) → pos ≡ 2 * w → end ≡ pos + 2 * n → end ≤ endMost → newSaid w n ≡ gives (pos ∷ end ∷ [])
+range-gives w n pos end p e h = new-gives w n (omega arith) ∙ rw (e, p)
 
-new-given : (w n pos end : ℕ) → gives (pos ∷ end ∷ []) ≡ newSaid w n → (pos ≡ 2 * w) × (end ≡ pos + 2 * n)
-unfolding newSaid
-new-given w n pos end p = go (leb (2 * w + 2 * n) endMost) p
+range-given : (w n pos end : ℕ) → gives (pos ∷ end ∷ []) ≡ newSaid w n → (pos ≡ 2 * w) × (end ≡ pos + 2 * n)
+range-given w n pos end p = go (leb (2 * w + 2 * n) endMost) refl
   where
-    go : (t : Bool) → gives (pos ∷ end ∷ []) ≡ pick t (gives ((2 * w) ∷ (2 * w + 2 * n) ∷ [])) (refuses 1 []) → (pos ≡ 2 * w) × (end ≡ pos + 2 * n)
-    go true p =
+    go : (t : Bool) → leb (2 * w + 2 * n) endMost ≡ t → (pos ≡ 2 * w) × (end ≡ pos + 2 * n)
+    go true h =
+        let q = p ∙ new-gives w n (leb-true (2 * w + 2 * n) endMost h) in
         let a : pos ≡ 2 * w = cc in
         let b : end ≡ 2 * w + 2 * n = cc in
         (a, omega arith)
-    go false p = (cc, cc)
+    go false h =
+        let q = p ∙ new-refuses w n (leb-false (2 * w + 2 * n) endMost h) in
+        let z : _≡_ {A = ℕ} 0 1 = cc in
+        absurd (omega arith)
 
 -- ---- a first category is found
 
@@ -49,7 +50,7 @@ pub first-found : (image : List ℕ) (number pos end : ℕ) → end ≤ endMost 
 first-found image number pos end i f =
     let w = f .word in
     let r = reaches image number w (f .before) (f .header) (omega (arith, f .inside)) (omega (arith, f .few, counted-more (lengthAt image w) (f .before))) in
-    sym r ∙ search-match image number w (f .before) (f .inside) (f .few) (f .named) ∙ new-gives (w + headerWords) (lengthAt image w) pos end (f .starts) (f .ends) i
+    sym r ∙ search-match image number w (f .before) (f .inside) (f .few) (f .named) ∙ range-gives (w + headerWords) (lengthAt image w) pos end (f .starts) (f .ends) i
 
 -- ---- what is found is a first category
 
@@ -73,7 +74,7 @@ module _ (image : List ℕ) (number pos end : ℕ) where
           done (gives (pos ∷ end ∷ [])) ≡ decided type len number (w + headerWords) (counted len e) → FirstOf image number pos end
       go type len t l p =
           let q = gives-match (pos ∷ end ∷ []) (ltb wordMost (w + 2)) (leb emptyMost (counted len e)) (eqb type number) (eqb type endMark) (ltb wordMost (w + 2 + len)) _ _ _ p in
-          let r = new-given (w + headerWords) len pos end (q .3) in
+          let r = range-given (w + headerWords) len pos end (q .3) in
           record {
             word = w;
             before = e;

@@ -1,7 +1,6 @@
 -- Document 01's two values of the CRC, by carrying out the division.
 use mathlib.Core.Path.{_≡_, refl}
-use mathlib.Core.List.{List, [], _∷_}
-use Prim.Native.Nat.{ℕ}
+use mathlib.Core.List.{[], _∷_}
 use lib.ListN.{replicate}
 use Rattle.crc.specs.Crc.{bits, bitsOf, broughtDown, remainder, started, crcOf}
 

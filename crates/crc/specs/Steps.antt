@@ -10,6 +10,7 @@ use Rattle.crc.specs.Crc.{polynomial}
 unfoldable pub shifted : ℕ → ℕ
 shifted c = pick (ltb c 128) (c * 2) (bitXor (c % 128 * 2) polynomial)
 
+-- k places
 unfoldable pub shiftedBy : ℕ → ℕ → ℕ
 shiftedBy zero c = c
 shiftedBy (suc k) c = shiftedBy k (shifted c)

@@ -5,7 +5,7 @@ use Prim.Native.Nat.{ℕ}
 use Rattle.refusal.specs.Said.{gives, refuses}
 use Rattle.wire.specs.Bytes.{byteAt, span, filled, overlay}
 use Rattle.eeprom.specs.Image.{within, fine}
-use Rattle.eeprom.specs.Range.{newSaid, startSaid, skipIn, skipSaid, byteIn, byteSaid, readSaid, readBuf, exactSaid, words, wrote, writeSaid, writeImage}
+use Rattle.eeprom.specs.Range.{newSaid, startSaid, skipIn, skipSaid, readBuf, exactSaid, words, wrote, writeSaid, writeImage}
 
 abbrev eight : List ℕ
 eight = 10 ∷ 11 ∷ 12 ∷ 13 ∷ 14 ∷ 15 ∷ 16 ∷ 17 ∷ []

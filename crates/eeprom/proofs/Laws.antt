@@ -1,20 +1,19 @@
 -- Laws of a range's rules, which callers cite in place of the definitions: what each call says inside its bounds, and outside.
 -- The law of a byte read is stated for positions before the end.
-use Prim.Native.Nat.{ℕ, _+_, _-_, _*_, _/_, _%_, _≤_, _<_, min, max}
-use native.Mathlib.Nat.{le-of-eq}
+use Prim.Native.Nat.{ℕ, _+_, _-_, _*_, _%_, _≤_, _<_, min, max}
 use native.Mathlib.Omega.{arith}
 use mathlib.Core.Path.{_≡_, refl}
 use mathlib.Core.List.{List, [], _∷_, append-nil}
-use mathlib.Core.Bool.{Bool, true, false, _&&_}
+use mathlib.Core.Bool.{Bool, true, false}
 use lib.Dec.{leb, ltb, eqb}
-use lib.ListN.{length, drop}
+use lib.ListN.{length}
 use lib.Seq.{drop-length}
 use borrow.Author.Tests.{lt-ltb, le-ltb, le-leb, lt-leb, leb-true, leb-false, eq-eqb, eqb-true}
 use Rattle.refusal.specs.Said.{Said, gives, refuses, pick, on3}
 use Rattle.refusal.proofs.Tests.{both}
 use Rattle.wire.specs.Bytes.{byteAt, span, filled}
 use Rattle.eeprom.specs.Image.{imageMost, endMost, within, fine}
-use Rattle.eeprom.specs.Range.{newSaid, startSaid, skipIn, skipSaid, byteIn, byteSaid, taken, readSaid, readBuf, exactSaid, words, wrote, writeSaid, writeImage}
+use Rattle.eeprom.specs.Range.{newSaid, skipIn, skipSaid, byteIn, byteSaid, taken, readSaid, readBuf, exactSaid}
 
 -- ---- the bounds of a call
 

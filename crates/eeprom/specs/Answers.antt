@@ -1,6 +1,5 @@
 -- What each answer says, in document 01's numbers and values. A range is said by its position and its end.
-use Prim.Native.Nat.{ℕ}
-use mathlib.Core.List.{List, [], _∷_}
+use mathlib.Core.List.{[], _∷_}
 use Rattle.refusal.specs.Said.{Said, gives, refuses, saidOf}
 use Rattle.eeprom.specs.declared.RangeAnswer.{RangeAnswer}
 use Rattle.eeprom.specs.declared.RangeAnswer.the-variants as range
@@ -13,14 +12,17 @@ use Rattle.eeprom.specs.declared.Exact.the-variants as exact
 use Rattle.eeprom.specs.declared.Writing.{Writing}
 use Rattle.eeprom.specs.declared.Writing.the-variants as writing
 
+-- a range that was asked for
 abbrev pub saidRange : RangeAnswer → Said
 saidRange (range.Made g) = gives (g .«byte_pos» ∷ g .end ∷ [])
 saidRange (range.No x) = saidOf x
 
+-- the byte, and the range after it
 abbrev pub saidByte : ByteAnswer → Said
 saidByte (byte.Byte b g) = gives (b ∷ g .«byte_pos» ∷ g .end ∷ [])
 saidByte (byte.No x) = saidOf x
 
+-- how many bytes were read, and the range after them
 abbrev pub saidReading : Reading → Said
 saidReading (reading.Took n g) = gives (n ∷ g .«byte_pos» ∷ g .end ∷ [])
 saidReading (reading.No x) = saidOf x

@@ -24,6 +24,7 @@ startSaid w bytes = newSaid w (bytes / 2)
 unfoldable pub skipIn : ℕ → ℕ → ℕ → Said
 skipIn pos end skip = pick (ltb (pos + skip) end) (gives ((pos + skip) ∷ end ∷ [])) (refuses 2 [])
 
+-- what a skip says: an odd end is outside the bounds
 unfoldable pub skipSaid : ℕ → ℕ → ℕ → Said
 skipSaid pos end skip = pick (eqb (end % 2) 0) (skipIn pos end skip) (refuses 14 [])
 
@@ -33,6 +34,7 @@ skipSaid pos end skip = pick (eqb (end % 2) 0) (skipIn pos end skip) (refuses 14
 unfoldable pub byteIn : List ℕ → ℕ → ℕ → Said
 byteIn image pos end = pick (ltb pos endMost) (gives (byteAt image pos ∷ (pos + 1) ∷ end ∷ [])) (refuses 1 [])
 
+-- what a byte read says
 unfoldable pub byteSaid : List ℕ → ℕ → ℕ → Said
 byteSaid image pos end = pick (fine image end) (byteIn image pos end) (refuses 14 [])
 
@@ -42,6 +44,7 @@ byteSaid image pos end = pick (fine image end) (byteIn image pos end) (refuses 1
 abbrev pub taken : ℕ → ℕ → ℕ → ℕ
 taken pos end k = min k (end - pos)
 
+-- what a read into k bytes says: how many it took, and the range after them
 unfoldable pub readSaid : List ℕ → ℕ → ℕ → ℕ → Said
 readSaid image pos end k =
     pick (fine image end) (gives (taken pos end k ∷ (pos + taken pos end k) ∷ end ∷ [])) (refuses 14 [])
@@ -78,7 +81,7 @@ pub record Wrote : Type 0 where
   pub image : List ℕ
   pub said : Said
 
--- words written one by one, n bytes so far, while the position is before the end: each must lie wholly in the image
+-- words written one by one while the position is before the end, n bytes so far: each must lie wholly in the image
 unfoldable pub wrote : List ℕ → ℕ → ℕ → ℕ → List (List ℕ) → Wrote
 wrote image n pos end [] = record { image = image; said = gives (n ∷ pos ∷ end ∷ []) }
 wrote image n pos end (word ∷ rest) =
@@ -88,6 +91,7 @@ wrote image n pos end (word ∷ rest) =
     (record { image = image; said = refuses 7 (pos ∷ end ∷ []) }))
     (record { image = image; said = gives (n ∷ pos ∷ end ∷ []) })
 
+-- what a write says
 unfoldable pub writeSaid : List ℕ → ℕ → ℕ → List ℕ → Said
 writeSaid image pos end bytes = pick (fine image end) (wrote image 0 pos end (words bytes) .said) (refuses 14 [])
 

@@ -11,7 +11,7 @@ ghost use Prim.Native.Nat.{_+_, _-_, _*_, _%_, _≤_, _<_};
 ghost use lib.ListN.{length, getD};
 ghost use Rattle.wire.specs.Bytes.{byteAt, le16, le32, span, filled, overlay};
 ghost use Rattle.eeprom.specs.Image.{endMost, within, fine, widthOf, chunkOf};
-ghost use Rattle.eeprom.specs.Range.{Wrote, newSaid, startSaid, byteIn, byteSaid, skipSaid, readSaid, readBuf, exactSaid, exactBuf, words, wrote, writeSaid, writeImage};
+ghost use Rattle.eeprom.specs.Range.{newSaid, startSaid, byteIn, byteSaid, skipSaid, readSaid, readBuf, exactSaid, exactBuf, words, wrote, writeSaid, writeImage};
 ghost use Rattle.eeprom.specs.Answers.{saidRange, saidByte, saidReading, saidExact, saidWriting};
 
 // The width of a chunk.
@@ -270,10 +270,11 @@ fn byte_in(image: &[u8], chunk: Chunk, pos: Pos, end: Pos) -> ByteAnswer
     ensures { λ r. ⌜ saidByte r ≡ byteIn (now (image .entry)) pos end ⌝ }
 {
     if (pos as u32) < END_MOST {
+        let next = pos + 1;
         ByteAnswer::Byte(
             byte_of(image, chunk, pos as u32),
             Range {
-                byte_pos: pos + 1,
+                byte_pos: next,
                 end,
             },
         )

@@ -8,8 +8,8 @@ use Rattle.eeprom.proofs.byte_in.Tie as tie
 byte-of-requires : tie.Need-byte-of-requires
 byte-of-requires c κs = search needs
 
-add-t10 : tie.Need-add-t10
-add-t10 c = search needs
+add-next : tie.Need-add-next
+add-next c = search needs
 
 returns : tie.Need-returns
 unfolding byteIn
@@ -20,4 +20,4 @@ unfolding byteIn
 returns-2 c = rw (le-ltb _ _ (c .if1 .left))
 
 pub byte-in-spec : {M : Type 1} → statement M
-byte-in-spec = tie.close (tie.spec byte-of-requires add-t10 returns returns-2)
+byte-in-spec = tie.close (tie.spec add-next byte-of-requires returns returns-2)

@@ -1,5 +1,4 @@
 -- `eeprom::lay_chunk` lays a part of a chunk, which is the image's.
-use native.Mathlib.Omega.{arith}
 use Rattle.eeprom.proofs.Chunks.{width-most, chunk-laid}
 use borrow.Author.Needs.{needs}
 use Rattle.eeprom.proofs.lay_chunk.Statement.{statement}

@@ -1,5 +1,4 @@
 -- `eeprom::read_chunk` fills eight zeros with as many bytes as the chunk has.
-use mathlib.Core.Path.{ap, _∙_}
 use native.Mathlib.Omega.{arith}
 use borrow.Author.Needs.{needs}
 use Rattle.eeprom.specs.Image.{chunkOf}

@@ -3,12 +3,11 @@ use borrow.Author.Needs.{needs}
 use Prim.Native.Nat.{_≤_, _-_, _+_}
 use mathlib.Core.Path.{_≡_, refl, sym, ap, _∙_}
 use mathlib.Core.Logic.{⊎-elim}
-use native.Mathlib.Omega.{arith}
 use lib.ListN.{length, drop}
-use borrow.Author.Tests.{ltb-true, ltb-false}
+use borrow.Author.Tests.{ltb-false}
 use Rattle.eeprom.specs.Image.{endMost}
 use Rattle.eeprom.specs.Range.{words, Wrote, wrote}
-use Rattle.eeprom.proofs.Words.{over, wrote-end, wrote-all, wrote-next, wrote-stop}
+use Rattle.eeprom.proofs.Words.{wrote-end, wrote-all, wrote-next, wrote-stop}
 use Rattle.eeprom.proofs.write_words.Statement.{statement}
 use Rattle.eeprom.proofs.write_words.Tie as tie
 

@@ -1,7 +1,6 @@
 -- `Range::write` tests its arguments and calls `write_words`.
 use mathlib.Core.Path.{_≡_, sym, _∙_}
 use Prim.Native.Nat.{_%_}
-use native.Mathlib.Omega.{arith}
 use Rattle.eeprom.specs.Range.{writeSaid, writeImage}
 use Rattle.eeprom.proofs.Laws.{fine-even}
 use borrow.Author.Needs.{needs}

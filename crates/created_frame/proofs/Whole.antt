@@ -1,0 +1,128 @@
+-- The whole area after a PDU more, byte by byte, whatever it held before: the four places where a byte can lie.
+use mathlib.Core.Path.{_≡_, refl, sym, ap, _∙_}
+use mathlib.Core.Logic.{_≢_}
+use mathlib.Core.Bool.{Bool, true, false}
+use mathlib.Core.List.{List, [], _∷_, _++_}
+use Prim.Native.Nat.{ℕ, _+_, _-_, _%_, _≤_, _<_, max, min}
+use native.Mathlib.Omega.{arith}
+use borrow.Author.Tests.{leb-true, ne-eqb, eqb-false}
+use lib.Dec.{leb, eqb}
+use lib.ListN.{length, take, drop, length-append, length-take, List·getD-append}
+use lib.Seq.{getD-append-add, getD-take, getD-drop, getD-set-same, getD-set-other}
+use Rattle.refusal.specs.Said.{pick}
+use Rattle.wire.specs.Bytes.{byteAt, overlay}
+use Rattle.wire.proofs.Laws.{length-overlay}
+use Rattle.pdu.specs.Pdu.{headerOf}
+use Rattle.created_frame.specs.declared.Builder.{Builder}
+use Rattle.created_frame.specs.Frame.{more, marked, acceptable, room, withPdu, Roomy, afterPush, taken, afterRest}
+use Rattle.created_frame.proofs.Laws.{accepted, has-room, length-marked}
+
+-- ---- a list laid over another: before it, in it, behind it
+
+module _ (xs : List ℕ) (at : ℕ) (ys : List ℕ) (h : at + length ys ≤ length xs) where
+  front : length (take at xs ++ ys) ≡ at + length ys
+  front = simp (length-append, length-take) (omega arith)
+
+  pub overlay-before : (i : ℕ) → i < at → byteAt (overlay xs at ys) i ≡ byteAt xs i
+  unfolding overlay byteAt
+  overlay-before i lt =
+      let k : length (take at xs) ≡ at = rw length-take (omega arith) in
+      List·getD-append (take at xs ++ ys) (drop (at + length ys) xs) 255 i (omega (arith, front))
+      ∙ List·getD-append (take at xs) ys 255 i (omega arith) ∙ getD-take at xs i 255 lt
+
+  pub overlay-inside : (k : ℕ) → k < length ys → byteAt (overlay xs at ys) (at + k) ≡ byteAt ys k
+  unfolding overlay byteAt
+  overlay-inside k lt =
+      let n : length (take at xs) ≡ at = rw length-take (omega arith) in
+      let e : at + k ≡ length (take at xs) + k = omega arith in
+      List·getD-append (take at xs ++ ys) (drop (at + length ys) xs) 255 (at + k) (omega (arith, front))
+      ∙ rw e (getD-append-add (take at xs) ys k 255)
+
+  pub overlay-past : (i : ℕ) → at + length ys ≤ i → byteAt (overlay xs at ys) i ≡ byteAt xs i
+  unfolding overlay byteAt
+  overlay-past i le =
+      let k = i - (at + length ys) in
+      let e : i ≡ length (take at xs ++ ys) + k = omega (arith, front) in
+      let f : at + length ys + k ≡ i = omega arith in
+      ap (byteAt (overlay xs at ys)) e ∙ getD-append-add (take at xs ++ ys) (drop (at + length ys) xs) k 255 ∙ getD-drop (at + length ys) xs k 255 ∙ ap (byteAt xs) f
+
+-- ---- more-follows
+
+pub marked-there : (xs : List ℕ) (count last : ℕ) → 0 < count → last + 7 < length xs → byteAt (marked xs count last) (last + 7) ≡ byteAt xs (last + 7) % 128 + 128
+unfolding marked more byteAt
+marked-there xs count last some lt = rw (ne-eqb count 0 (λ z. omega arith)) (getD-set-same xs (last + 7) _ 255 lt)
+
+pub marked-else : (xs : List ℕ) (count last i : ℕ) → (0 < count → i ≢ last + 7) → byteAt (marked xs count last) i ≡ byteAt xs i
+unfolding marked more byteAt
+marked-else xs count last i ne = go (eqb count 0) refl
+  where
+    go : (t : Bool) → eqb count 0 ≡ t → byteAt (pick t xs (more xs (last + 7))) i ≡ byteAt xs i
+    go true e = refl
+    go false e = let z = eqb-false count 0 e in getD-set-other xs (last + 7) i _ 255 (ne (omega arith))
+
+-- ---- the area after a PDU of len payload bytes
+
+module _ (xs : List ℕ) (b : Builder) (index command address len : ℕ) (bytes : List ℕ) (r : Roomy (length xs) b len (length bytes)) where
+  abbrev ys : List ℕ
+  ys = headerOf command index address len 0 ++ bytes
+
+  inside : b .used + length ys ≤ length (marked xs (b .count) (b .last))
+  inside =
+      let n : length ys ≡ 10 + length bytes = length-append (headerOf command index address len 0) bytes in
+      omega (arith, length-marked xs (b .count) (b .last), r .fits, r .given-fits)
+
+  -- it is as long as it was
+  pub length-with : length (withPdu xs b index command address len bytes) ≡ length xs
+  length-with = length-overlay (marked xs (b .count) (b .last)) (b .used) ys inside ∙ length-marked xs (b .count) (b .last)
+
+  -- its header and the given bytes are written
+  pub new-bytes : (k : ℕ) → k < 10 + length bytes → byteAt (withPdu xs b index command address len bytes) (b .used + k) ≡ byteAt (headerOf command index address len 0 ++ bytes) k
+  new-bytes k lt = overlay-inside (marked xs (b .count) (b .last)) (b .used) ys inside k (omega (arith, length-append (headerOf command index address len 0) bytes))
+
+  -- bit 15 of the flags of the PDU before is set
+  pub flag-set : 0 < b .count → byteAt (withPdu xs b index command address len bytes) (b .last + 7) ≡ byteAt xs (b .last + 7) % 128 + 128
+  flag-set some =
+      overlay-before (marked xs (b .count) (b .last)) (b .used) ys inside (b .last + 7) (omega (arith, r .header-in some))
+      ∙ marked-there xs (b .count) (b .last) some (omega (arith, r .header-in some, r .fits))
+
+  -- every other used byte is as it was
+  pub used-kept : (i : ℕ) → i < b .used → (0 < b .count → i ≢ b .last + 7) → byteAt (withPdu xs b index command address len bytes) i ≡ byteAt xs i
+  used-kept i lt ne =
+      overlay-before (marked xs (b .count) (b .last)) (b .used) ys inside i lt ∙ marked-else xs (b .count) (b .last) i ne
+
+  -- and so is all that lies behind the given bytes: the missing ones, the last two, the rest of the area
+  pub rest-kept : (i : ℕ) → b .used + (10 + length bytes) ≤ i → byteAt (withPdu xs b index command address len bytes) i ≡ byteAt xs i
+  rest-kept i le =
+      overlay-past (marked xs (b .count) (b .last)) (b .used) ys inside i (omega (arith, length-append (headerOf command index address len 0) bytes))
+      ∙ marked-else xs (b .count) (b .last) i (λ some e. omega (arith, r .header-in some))
+
+-- ---- no push changes the area's length
+
+module _ (xs : List ℕ) (b : Builder) (index command address : ℕ) (bytes : List ℕ) where
+  pub length-after-push : (over : ℕ) → length (afterPush xs b index command address bytes over) ≡ length xs
+  unfolding afterPush room
+  length-after-push over = go _ _ refl refl
+    where
+      go : (t r : Bool) → acceptable (length xs) b command (length bytes) over ≡ t → leb (b .used + (max (length bytes) over + 12)) (length xs) ≡ r
+          → length (pick t (pick r (withPdu xs b index command address (max (length bytes) over) bytes) xs) xs) ≡ length xs
+      go true true e f =
+          length-with xs b index command address (max (length bytes) over) bytes
+          (has-room _ _ _ _ (accepted (length xs) b command (length bytes) over e .state) (leb-true _ _ f) (omega arith))
+      go true false e f = refl
+      go false r e f = refl
+
+  pub length-after-rest : length (afterRest xs b index command address bytes) ≡ length xs
+  unfolding afterRest
+  length-after-rest = go _ _ refl refl
+    where
+      go : (t z : Bool) → acceptable (length xs) b command (length bytes) 0 ≡ t → eqb (taken (length xs) (b .used) (length bytes)) 0 ≡ z
+          → let n = taken (length xs) (b .used) (length bytes) in
+          length (pick t (pick z xs (withPdu xs b index command address n (take n bytes))) xs) ≡ length xs
+      go true false e f =
+          let n = taken (length xs) (b .used) (length bytes) in
+          let pos : n ≢ 0 = eqb-false n 0 f in
+          let l : length (take n bytes) ≡ n = rw length-take (omega arith) in
+          let a = accepted (length xs) b command (length bytes) 0 e in
+          length-with xs b index command address n (take n bytes) (has-room _ _ _ _ (a .state) (omega arith) (omega arith))
+      go true true e f = refl
+      go false z e f = refl

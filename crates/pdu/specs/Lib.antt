@@ -1,0 +1,4 @@
+pub mod Pdu
+pub mod Read
+pub mod Grammar
+pub mod Answers

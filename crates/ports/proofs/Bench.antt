@@ -1,0 +1,90 @@
+-- Document 01's bench cases on ports, and what DECISIONS says of a record that no call made, in the definitions: each is computed.
+use Prim.Native.Nat.{ℕ}
+use native.Mathlib.Nat.{le-refl}
+use mathlib.Core.Path.{_≡_, refl, ap, _∙_}
+use mathlib.Core.Bool.{true, false}
+use mathlib.Core.List.{[], _∷_}
+use lib.Dec.{ltb}
+use borrow.Author.Tests.{le-ltb}
+use Rattle.refusal.specs.Said.{gives, absent}
+use Rattle.ports.specs.declared.Link.the-variants.{To}
+use Rattle.ports.specs.declared.Ports.{Ports}
+use Rattle.ports.specs.Answers.{entrySaid}
+use Rattle.ports.specs.Ports.{noPort, those, firstThat, folded, earliest, activePorts, entry, fresh, timesSet, linkSet}
+use Rattle.ports.specs.Delays.{largest, smallest, spread, delaySaid, total, totalSaid, activeBetween, timeTo, timeToSaid, gap, gaps, sumSaid, intermediateSaid}
+use Rattle.ports.specs.Assigning.{repeated, assignable, assignedOf, assignedSaid}
+use Rattle.ports.specs.Display.{wordOf, words, textOf}
+
+-- all four active, 100 200 300 400 by place
+unfoldable pub four : Ports
+unfolding fresh timesSet
+four = timesSet (fresh true true true true) 100 200 300 400
+
+-- active 0, 3, 2 at 10, 30, 90; the time of port 1 does not matter
+unfoldable pub three : ℕ → Ports
+unfolding fresh timesSet
+three t = timesSet (fresh true true false true) 10 30 t 90
+
+-- active 0 and 3, equal times
+unfoldable pub two : ℕ → Ports
+unfolding fresh timesSet
+two t = timesSet (fresh true true false false) t t 0 0
+
+-- a record that no call made: place 1 is active, calls itself port 7 and leads to device 0
+unfoldable pub stray : Ports
+stray = record { 0 = noPort ∷ record { active = true; «dc_receive_time» = 5; number = 7; «downstream_to» = To 0 } ∷ noPort ∷ noPort ∷ [] }
+
+-- the record after a device is assigned
+abbrev after : Ports → ℕ → Ports
+after p d = assignedOf p d .ports
+
+pub record Bench (t : ℕ) : Type 0 where
+  pub four-total : totalSaid four ≡ gives (300 ∷ [])
+  pub four-between : intermediateSaid four 1 ≡ gives (200 ∷ [])
+  pub three-between : intermediateSaid (three t) 2 ≡ gives (20 ∷ [])
+  pub three-to : timeToSaid (three t) 2 ≡ gives (80 ∷ [])
+  pub shown : textOf (fresh true false true false) ≡
+      112 ∷ 111 ∷ 114 ∷ 116 ∷ 115 ∷ 32 ∷ 91 ∷ 32 ∷ 111 ∷ 112 ∷ 101 ∷ 110 ∷ 32 ∷ 99 ∷ 108 ∷ 111 ∷ 115 ∷ 101 ∷ 100 ∷ 32 ∷ 111 ∷ 112 ∷ 101 ∷ 110 ∷ 32 ∷ 99 ∷ 108 ∷ 111 ∷ 115 ∷ 101 ∷ 100 ∷ 32 ∷ 93 ∷ []
+  pub two-first : assignedSaid (two t) 1 ≡ gives (3 ∷ [])
+  pub two-second : assignedSaid (after (two t) 1) 2 ≡ gives (0 ∷ [])
+  pub two-third : assignedSaid (after (after (two t) 1) 2) 3 ≡ absent
+  -- the place decides, and a link to device 0 is a link
+  pub stray-entry : entrySaid stray ≡ gives (3 ∷ [])
+  pub stray-assigned : assignedSaid stray 1 ≡ absent
+
+module _ (t : ℕ) where
+  same : ltb t t ≡ false
+  same = le-ltb t t (le-refl t)
+
+  -- the two links, made
+  after-one : after (two t) 1 ≡ linkSet (two t) 1 1
+  unfolding two those firstThat folded earliest activePorts entry linkSet repeated assignable assignedOf
+  after-one = rw (same, after)
+
+  after-two : after (linkSet (two t) 1 1) 2 ≡ linkSet (linkSet (two t) 1 1) 0 2
+  unfolding two those firstThat folded earliest activePorts entry linkSet repeated assignable assignedOf
+  after-two = rw (same, after)
+
+  second : assignedSaid (linkSet (two t) 1 1) 2 ≡ gives (0 ∷ [])
+  unfolding two those firstThat folded earliest activePorts entry linkSet repeated assignable assignedSaid
+  second = rw same
+
+  third : assignedSaid (linkSet (linkSet (two t) 1 1) 0 2) 3 ≡ absent
+  unfolding two those firstThat folded earliest activePorts entry linkSet repeated assignable assignedSaid
+  third = rw same
+
+  pub bench : Bench t
+  unfolding four three two those firstThat folded earliest activePorts entry fresh timesSet linkSet largest smallest spread delaySaid total totalSaid activeBetween timeTo timeToSaid gap gaps sumSaid intermediateSaid repeated assignable assignedSaid wordOf words textOf stray entrySaid
+  bench =
+      record {
+        four-total = refl;
+        four-between = refl;
+        three-between = refl;
+        three-to = refl;
+        shown = refl;
+        two-first = rw same;
+        two-second = ap (λ (p : Ports). assignedSaid p 2) after-one ∙ second;
+        two-third = ap (λ (p : Ports). assignedSaid p 3) (ap (λ (p : Ports). after p 2) after-one ∙ after-two) ∙ third;
+        stray-entry = refl;
+        stray-assigned = refl;
+      }

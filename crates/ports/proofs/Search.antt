@@ -1,0 +1,69 @@
+-- What a search of the repeated list takes: each step of the code leaves it as it was.
+use Prim.Native.Nat.{ℕ, zero, suc, _+_, _-_, _≤_, _<_}
+use native.Mathlib.Omega.{arith}
+use mathlib.Core.Path.{_≡_, refl}
+use mathlib.Core.Bool.{true, false}
+use mathlib.Core.List.{List, [], _∷_, _++_}
+use lib.ListN.{take, drop}
+use borrow.Author.Tests.{lt-ltb, le-ltb}
+use Rattle.ports.specs.declared.Ports.{Ports}
+use Rattle.ports.specs.declared.assign.Look.{Look}
+use Rattle.ports.specs.Ports.{unlinkedAt, firstThat, activePorts, entry}
+use Rattle.ports.specs.Assigning.{repeated, assignable, finds}
+
+drop-pos : (n k : ℕ) (ks : List ℕ) → 0 < n → drop n (k ∷ ks) ≡ drop (n - 1) ks
+drop-pos zero k ks h = absurd (let z : ⊥ = omega arith in z)
+drop-pos (suc n) k ks h = let e : suc n - 1 ≡ n = omega arith in rw e
+
+take-pos : (n k : ℕ) (ks : List ℕ) → 0 < n → take n (k ∷ ks) ≡ k ∷ take (n - 1) ks
+take-pos zero k ks h = absurd (let z : ⊥ = omega arith in z)
+take-pos (suc n) k ks h = let e : suc n - 1 ≡ n = omega arith in rw e
+
+take-none : (m n : ℕ) → take {A = ℕ} m (drop n []) ≡ []
+take-none zero zero = refl
+take-none zero (suc n) = refl
+take-none (suc m) zero = refl
+take-none (suc m) (suc n) = refl
+
+-- ---- one place more
+
+module _ (p : Ports) (l : Look) (k : ℕ) (ks : List ℕ) where
+  pub pass-taken : l .taken < 4 → finds p l ks ≡ finds p l (k ∷ ks)
+  unfolding finds
+  pass-taken h = rw (lt-ltb (l .taken) 4 h)
+
+  module _ (none : 4 ≤ l .taken) where
+    pub pass-skip : 0 < l .skip → finds p (record { skip = l .skip - 1; left = l .left; taken = 4 }) ks ≡ finds p l (k ∷ ks)
+    unfolding finds
+    pass-skip h = rw (le-ltb (l .taken) 4 none, drop-pos (l .skip) k ks h)
+
+    pub pass-done : l .skip ≡ 0 → l .left ≡ 0 → finds p l ks ≡ finds p l (k ∷ ks)
+    unfolding finds
+    pass-done s h = rw (le-ltb (l .taken) 4 none, h)
+
+    pub pass-free : l .skip ≡ 0 → 0 < l .left → k < 4 → unlinkedAt p k ≡ true → finds p (record { skip = 0; left = l .left - 1; taken = k }) ks ≡ finds p l (k ∷ ks)
+    unfolding finds firstThat
+    pass-free s h b f = rw (le-ltb (l .taken) 4 none, lt-ltb k 4 b, s, take-pos (l .left) k ks h, f)
+
+    pub pass-linked : l .skip ≡ 0 → 0 < l .left → unlinkedAt p k ≡ false → finds p (record { skip = 0; left = l .left - 1; taken = 4 }) ks ≡ finds p l (k ∷ ks)
+    unfolding finds firstThat
+    pass-linked s h f = rw (le-ltb (l .taken) 4 none, s, take-pos (l .left) k ks h, f)
+
+-- ---- the rounds
+
+pub repeated-next : (ks : List ℕ) (i : ℕ) → i < 8 → ks ++ repeated (8 - (i + 1)) ks ≡ repeated (8 - i) ks
+unfolding repeated
+repeated-next ks i h = let e : 8 - i ≡ suc (8 - (i + 1)) = omega arith in rw e
+
+pub finds-start : (p : Ports) (e : ℕ) → e ≡ entry p → finds p (record { skip = e + 1; left = 4; taken = 4 }) (repeated 8 (activePorts p)) ≡ assignable p
+unfolding finds assignable
+finds-start p e q = rw q
+
+module _ (p : Ports) (l : Look) where
+  pub finds-taken : (i : ℕ) → l .taken < 4 → l .taken ≡ finds p l (repeated (8 - i) (activePorts p))
+  unfolding finds
+  finds-taken i b = rw (lt-ltb (l .taken) 4 b)
+
+  pub finds-none : (i : ℕ) → 8 ≤ i → 4 ≤ l .taken → 4 ≡ finds p l (repeated (8 - i) (activePorts p))
+  unfolding finds repeated firstThat
+  finds-none i h b = let e : 8 - i ≡ 0 = omega arith in rw (le-ltb (l .taken) 4 b, e, take-none (l .left) (l .skip))

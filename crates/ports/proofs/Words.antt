@@ -1,0 +1,77 @@
+-- The text is laid word by word: each word goes just behind those before it.
+use Prim.Native.Nat.{ℕ, zero, suc, _+_, _≤_, _<_}
+use native.Mathlib.Nat.{add-zero, add-suc}
+use native.Mathlib.Numerals.{add-one}
+use native.Mathlib.Omega.{arith}
+use mathlib.Core.Path.{_≡_, sym, _∙_}
+use mathlib.Core.List.{List, [], _++_}
+use lib.ListN.{length, length-append}
+use Rattle.wire.specs.Bytes.{laid, overlay}
+use Rattle.wire.proofs.Laws.{laid-whole, length-overlay, overlay-next, overlay-none}
+use Rattle.ports.specs.declared.Ports.{Ports}
+use Rattle.ports.specs.declared.Port.{Port}
+use Rattle.ports.specs.Ports.{portAt, activeAt}
+use Rattle.ports.specs.Display.{opening, closing, wordOf, words, textOf}
+
+-- xs with ys laid over it from from on is now; the next word goes to at
+pub record Front (xs : List ℕ) (from : ℕ) (ys now : List ℕ) (at : ℕ) : Type 0 where
+  pub so-far : now ≡ overlay xs from ys
+  pub next : at ≡ from + length ys
+
+pub front-start : (xs : List ℕ) (from : ℕ) → Front xs from [] xs from
+front-start xs from = record { so-far = sym (overlay-none xs from); next = sym (add-zero from) }
+
+pub front-next : {xs : List ℕ} {from : ℕ} {ys now : List ℕ} {at : ℕ} (zs now′ : List ℕ) → Front xs from ys now at → from + length (ys ++ zs) ≤ length xs
+    → now′ ≡ laid now at zs → Front xs from (ys ++ zs) now′ (at + length zs)
+front-next {xs} {from} {ys} {now} {at} zs now′ f h e =
+    let n : from + (length ys + length zs) ≤ length xs = rw length-append at h in
+    let k : from + length ys ≤ length xs = omega arith in
+    let m : from + length ys + length zs ≤ length (overlay xs from ys) = rw (length-overlay xs from ys k) (omega arith) in
+    record {
+      so-far = e ∙ rw (f .so-far, f .next) (laid-whole (overlay xs from ys) (from + length ys) zs m ∙ overlay-next xs from ys zs k);
+      next = rw (f .next, length-append) (omega arith);
+    }
+
+-- ---- the words
+
+module _ (p : Ports) where
+  grows : (k n : ℕ) → length (words p k) ≤ length (words p (k + n))
+  unfolding words
+  grows k zero = rw add-zero (omega arith)
+  grows k (suc n) = rw (add-suc, length-append) (omega (arith, grows k n))
+
+  pub grows-to : (k : ℕ) → k < 4 → length (words p k ++ wordOf (activeAt p k)) ≤ length (words p 4)
+  unfolding words
+  grows-to zero h = grows 1 3
+  grows-to (suc zero) h = grows 2 2
+  grows-to (suc (suc zero)) h = grows 3 1
+  grows-to (suc (suc (suc zero))) h = grows 4 0
+  grows-to (suc (suc (suc (suc k)))) h = absurd (let z : ⊥ = omega arith in z)
+
+  pub length-text : 8 + length (wordOf (activeAt p 0)) + length (wordOf (activeAt p 1)) + length (wordOf (activeAt p 2)) + length (wordOf (activeAt p 3)) + 1 ≡ length (textOf p)
+  unfolding textOf words
+  length-text = simp length-append (omega arith)
+
+  pub words-next : (k : ℕ) → words p (k + 1) ≡ words p k ++ wordOf (activeAt p k)
+  unfolding words
+  words-next k = rw add-one
+
+  pub word-next : {xs now : List ℕ} {at k r : ℕ} {now′ : List ℕ} {q : Port} → Front xs 8 (words p k) now at → k < 4 → 8 + length (words p 4) ≤ length xs
+      → q ≡ portAt p k → now′ ≡ laid now at (wordOf (q .active)) → r ≡ at + length (wordOf (q .active)) → Front xs 8 (words p (k + 1)) now′ r
+  word-next {k = k} {now′ = now′} f h room e n m =
+      rw (words-next k, m, e) (front-next (wordOf (activeAt p k)) now′ f (omega (arith, grows-to k h)) (rw e at n))
+
+  pub text-room : 8 + length (words p 4) + 1 ≡ length (textOf p)
+  unfolding textOf
+  text-room = rw (length-append, length-append)
+
+  pub text-laid : (xs now₁ now₂ now₃ : List ℕ) (at : ℕ) → length (textOf p) ≤ length xs → now₁ ≡ laid xs 0 opening → now₂ ≡ overlay now₁ 8 (words p 4)
+      → at ≡ 8 + length (words p 4) → now₃ ≡ laid now₂ at closing → now₃ ≡ overlay xs 0 (textOf p)
+  unfolding textOf
+  text-laid xs now₁ now₂ now₃ at h e₁ e₂ q e₃ =
+      let room : 8 + length (words p 4) + 1 ≤ length xs = rw (length-append, length-append) at h in
+      let one : 0 + length opening ≤ length xs = omega arith in
+      let first : now₁ ≡ overlay xs 0 opening = e₁ ∙ laid-whole xs 0 opening one in
+      let second : Front xs 0 (opening ++ words p 4) now₂ at =
+      record { so-far = e₂ ∙ rw first (overlay-next xs 0 opening (words p 4) one); next = rw length-append (omega arith) } in
+      front-next closing now₃ second (omega arith) e₃ .so-far

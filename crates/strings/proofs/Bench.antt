@@ -1,0 +1,34 @@
+-- Document 01's bench cases of strings, and the points of order around them, by computing the definitions.
+use Prim.Native.Nat.{ℕ}
+use mathlib.Core.Path.{_≡_, refl}
+use mathlib.Core.List.{List, [], _∷_, _++_}
+use lib.ListN.{replicate}
+use Rattle.refusal.specs.Said.{gives, absent, refuses, on2, on3}
+use Rattle.wire.specs.Bytes.{byteAt, span, overlay}
+use Rattle.eeprom.specs.Image.{within, fine}
+use Rattle.eeprom.specs.Range.{newSaid, byteIn, byteSaid, skipIn, skipSaid}
+use Rattle.category.specs.Category.{among, counted, decided, stepped, searchOver, searchFrom, searched, categorySaid}
+use Rattle.strings.specs.Strings.{stringPast, passedOne, passed, fitted, stringHere, stringBehind, stringIn, soughtAt, ascii, shown, textSaid, fits, textFor, stringSaid, lengthSaid, roomAfter}
+
+-- a strings category of four words
+unfoldable pub twoStrings : List ℕ
+twoStrings = replicate 128 0 ++ (10 ∷ 0 ∷ 4 ∷ 0 ∷ 2 ∷ 3 ∷ 65 ∷ 0 ∷ 181 ∷ 1 ∷ 66 ∷ 0 ∷ [])
+
+pub record Cases : Type 0 where
+  pub first : stringSaid twoStrings 1 3 ≡ gives (65 ∷ 63 ∷ [])
+  pub second : stringSaid twoStrings 2 3 ≡ gives (66 ∷ [])
+  pub third : stringSaid twoStrings 3 3 ≡ gives []
+  pub fourth : stringSaid twoStrings 4 3 ≡ absent
+  -- the stored length is counted before zeros are dropped
+  pub long : stringSaid twoStrings 1 2 ≡ refuses 4 (2 ∷ 3 ∷ [])
+  pub zero : stringSaid twoStrings 0 3 ≡ absent
+  -- a room of over 255 is refused before index 0 is absent
+  pub wide : stringSaid twoStrings 0 256 ≡ refuses 14 []
+  -- the room's bytes after the result stay
+  pub kept : roomAfter (stringSaid twoStrings 1 3) (7 ∷ 8 ∷ 9 ∷ []) ≡ 65 ∷ 63 ∷ 9 ∷ []
+
+pub cases : Cases
+unfolding
+    twoStrings on2 on3 byteAt span overlay within fine newSaid byteIn byteSaid skipIn skipSaid among counted decided stepped searchOver searchFrom searched categorySaid
+    stringPast passedOne passed fitted stringHere stringBehind stringIn soughtAt ascii shown textSaid fits textFor stringSaid lengthSaid roomAfter
+cases = record { first = refl; second = refl; third = refl; fourth = refl; long = refl; zero = refl; wide = refl; kept = refl }

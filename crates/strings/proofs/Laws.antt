@@ -1,0 +1,188 @@
+-- Laws of strings: passing over them, and the text laid byte by byte.
+use Prim.Native.Nat.{ℕ, zero, suc, _+_, _-_, _≤_, _<_}
+use native.Mathlib.Nat.{zero-add}
+use native.Mathlib.Numerals.{add-one, sub-one}
+use native.Mathlib.Omega.{arith}
+use mathlib.Core.Path.{_≡_, refl, sym, ap, _∙_}
+use mathlib.Core.List.{List, [], _∷_, _++_, append-assoc}
+use mathlib.Core.Bool.{Bool, true, false}
+use lib.ListN.{length, getD, set, length-append}
+use lib.Seq.{set-split}
+use lib.Dec.{eqb, ltb, leb}
+use borrow.Author.Tests.{le-ltb, eq-eqb, ne-eqb, ltb-false, leb-true}
+use Rattle.refusal.specs.Said.{Said, gives, absent, refuses, on2, on3, pick}
+use Rattle.refusal.proofs.Tests.{both}
+use Rattle.wire.specs.Bytes.{byteAt, span, overlay}
+use Rattle.wire.proofs.Laws.{span-add, length-overlay, overlay-next, overlay-none}
+use Rattle.eeprom.specs.Image.{within}
+use Rattle.eeprom.specs.Range.{byteSaid}
+use Rattle.category.specs.Numbers.{strings}
+use Rattle.category.specs.Category.{categorySaid}
+use Rattle.strings.specs.Strings.{stringPast, passedOne, passed, fitted, stringHere, stringBehind, stringIn, soughtAt, ascii, shown, textSaid, roomMost, fits, textFor, lengthSaid, roomAfter}
+use Rattle.strings.specs.Answers.{Small}
+
+-- ---- the rule of the last index
+
+-- an index that the count has is looked for
+pub past-not : (s count : ℕ) → s < count → stringPast s count ≡ false
+unfolding stringPast
+past-not s count h = le-ltb count s (omega arith)
+
+-- ---- passing over strings
+
+module _ (image : List ℕ) (pos end : ℕ) where
+  pub passed-none : (n : ℕ) → n ≤ 0 → gives (pos ∷ end ∷ []) ≡ passed n image pos end
+  unfolding passed
+  passed-none zero h = refl
+  passed-none (suc n) h = absurd (let z : ⊥ = omega arith in z)
+
+  pub passed-more : (n p e : ℕ) → 0 < n → gives (p ∷ e ∷ []) ≡ passedOne image pos end → passed (n - 1) image p e ≡ passed n image pos end
+  unfolding passed on2
+  passed-more zero p e h q = absurd (let z : ⊥ = omega arith in z)
+  passed-more (suc n) p e h q = rw (← q, sub-one)
+
+  pub passed-stop : (n k : ℕ) (l : List ℕ) → 0 < n → refuses k l ≡ passedOne image pos end → refuses k l ≡ passed n image pos end
+  unfolding passed on2
+  passed-stop zero k l h q = absurd (let z : ⊥ = omega arith in z)
+  passed-stop (suc n) k l h q = rw (← q)
+
+-- ---- where a string stands
+
+-- the count is read, and the rule of the last index goes by it
+module _ (image : List ℕ) (s k pos end count p e : ℕ) (h : gives (count ∷ p ∷ e ∷ []) ≡ byteSaid image pos end) (t : Bool) (r : t ≡ stringPast s count) where
+  pub in-absent : t ≡ true → absent ≡ stringIn image s k pos end
+  unfolding stringIn on3
+  in-absent q = rw (← h, ← r, q)
+
+  pub in-behind : t ≡ false → stringBehind image s k p e ≡ stringIn image s k pos end
+  unfolding stringIn on3
+  in-behind q = rw (← h, ← r, q)
+
+pub sought-on : (image : List ℕ) (index k : ℕ) → (index ≡ 0 → ⊥) → on2 (categorySaid image strings) (stringIn image (index - 1) k) ≡ soughtAt image index k
+unfolding soughtAt
+sought-on image index k h = rw (ne-eqb index 0 h)
+
+-- every place found fits the room
+small-on2 : (m : ℕ) (s : Said) (k : ℕ → ℕ → Said) → ((a b : ℕ) → Small m (k a b)) → Small m (on2 s k)
+unfolding on2
+small-on2 m (gives l) k h = h (getD l 0 0) (getD l 1 0)
+small-on2 m absent k h = tt
+small-on2 m (refuses n v) k h = tt
+
+small-on3 : (m : ℕ) (s : Said) (k : ℕ → ℕ → ℕ → Said) → ((a b c : ℕ) → Small m (k a b c)) → Small m (on3 s k)
+unfolding on3
+small-on3 m (gives l) k h = h (getD l 0 0) (getD l 1 0) (getD l 2 0)
+small-on3 m absent k h = tt
+small-on3 m (refuses n v) k h = tt
+
+small-pick : (m : ℕ) (t : Bool) (a b : Said) → Small m a → Small m b → Small m (pick t a b)
+small-pick m true a b x y = x
+small-pick m false a b x y = y
+
+small-fitted : (m n p e : ℕ) → Small m (fitted m n p e)
+unfolding fitted
+small-fitted m n p e = go (ltb m n) (leb n (e - p)) refl
+  where
+    go : (t u : Bool) → ltb m n ≡ t → Small m (pick t (refuses 4 (m ∷ n ∷ [])) (pick u (gives (p ∷ n ∷ [])) (refuses 2 [])))
+    go true u h = tt
+    go false true h = ltb-false m n h
+    go false false h = tt
+
+small-in : (image : List ℕ) (s m pos end : ℕ) → Small m (stringIn image s m pos end)
+unfolding stringIn stringBehind stringHere
+small-in image s m pos end =
+    small-on3 m (byteSaid image pos end) _ (λ count p e.
+    small-pick m (stringPast s count) absent (stringBehind image s m p e) tt
+    (small-on2 m (passed s image p e) _ (λ p e. small-on3 m (byteSaid image p e) _ (small-fitted m))))
+
+pub small-sought : (image : List ℕ) (index m : ℕ) → Small m (soughtAt image index m)
+unfolding soughtAt
+small-sought image index m =
+    small-pick m (eqb index 0) absent (on2 (categorySaid image strings) (stringIn image (index - 1) m)) tt
+    (small-on2 m (categorySaid image strings) _ (small-in image (index - 1) m))
+
+-- ---- the text
+
+pub shown-append : (a b : List ℕ) → shown (a ++ b) ≡ shown a ++ shown b
+unfolding shown
+shown-append [] b = refl
+shown-append (x ∷ a) b = go (eqb x 0) (shown-append a b)
+  where
+    go : (t : Bool) → shown (a ++ b) ≡ shown a ++ shown b →
+        pick t (shown (a ++ b)) (ascii x ∷ shown (a ++ b)) ≡ pick t (shown a) (ascii x ∷ shown a) ++ shown b
+    go true h = h
+    go false h = ap (_∷_ (ascii x)) h
+
+pub length-shown : (l : List ℕ) → length (shown l) ≤ length l
+unfolding shown
+length-shown [] = omega arith
+length-shown (x ∷ l) = go (eqb x 0) (length-shown l)
+  where
+    go : (t : Bool) → length (shown l) ≤ length l → length (pick t (shown l) (ascii x ∷ shown l)) ≤ suc (length l)
+    go true h = omega arith
+    go false h = omega arith
+
+-- one byte stored is one byte laid
+overlay-one : (xs : List ℕ) (k b : ℕ) → k < length xs → set xs k b ≡ overlay xs k (b ∷ [])
+unfolding overlay
+overlay-one xs k b h = rw (set-split xs k b h, add-one, append-assoc)
+
+-- a byte that is not shown, and one that is
+pub put-none : (b k : ℕ) (room : List ℕ) → b ≡ 0 → (k ≡ k + length (shown (b ∷ []))) × (room ≡ overlay room k (shown (b ∷ [])))
+unfolding shown
+put-none b k room z = rw (eq-eqb b 0 z) (omega arith, sym (overlay-none room k))
+
+pub put-one : (b k : ℕ) (room : List ℕ) → (b ≡ 0 → ⊥) → k < length room →
+    (k + 1 ≡ k + length (shown (b ∷ []))) × (set room k (ascii b) ≡ overlay room k (shown (b ∷ [])))
+unfolding shown
+put-one b k room n h = rw (ne-eqb b 0 n) (refl, overlay-one room k (ascii b) h)
+
+-- the text of i bytes is laid
+pub record Laid (image : List ℕ) (at i : ℕ) (room₀ room : List ℕ) (k : ℕ) : Type 0 where
+  pub count : k ≡ length (shown (span image at i))
+  pub most : k ≤ i
+  pub size : length room ≡ length room₀
+  pub same : room ≡ overlay room₀ 0 (shown (span image at i))
+
+module _ (image : List ℕ) (at : ℕ) (room₀ : List ℕ) where
+  pub laid-none : Laid image at 0 room₀ room₀ 0
+  unfolding span shown
+  laid-none = record { count = refl; most = omega arith; size = refl; same = sym (overlay-none room₀ 0) }
+
+  -- the text of one byte more, laid behind
+  pub laid-next : (i : ℕ) (room : List ℕ) (k b k′ : ℕ) (room′ : List ℕ) → b ≡ byteAt image (at + i) → Laid image at i room₀ room k → i < length room₀ →
+      k′ ≡ k + length (shown (b ∷ [])) → room′ ≡ overlay room k (shown (b ∷ [])) → Laid image at (i + 1) room₀ room′ k′
+  unfolding span
+  laid-next i room k b k′ room′ e l h n r =
+      let text = shown (span image at i) in
+      let more : shown (span image at (i + 1)) ≡ text ++ shown (b ∷ []) = rw (span-add, ← e, shown-append) in
+      let one : length (shown (b ∷ [])) ≤ 1 = length-shown (b ∷ []) in
+      let z : 0 + length text ≡ k = rw zero-add (sym (l .count)) in
+      let fits : 0 + length text ≤ length room₀ = omega (arith, l .most) in
+      let fits′ : k + length (shown (b ∷ [])) ≤ length room = omega (arith, l .most, l .size) in
+      record {
+        count = rw (more, length-append, n, l .count);
+        most = omega (arith, l .most);
+        size = rw r (length-overlay room k (shown (b ∷ [])) fits′ ∙ l .size);
+        same = rw (more, r) (ap (λ (x : List ℕ). overlay x k (shown (b ∷ []))) (l .same) ∙ rw (← z) (overlay-next room₀ 0 text (shown (b ∷ [])) fits));
+      }
+
+-- ---- the bounds of image and room
+
+module _ (image : List ℕ) (k : ℕ) (t : Bool) (e : t ≡ fits image k) where
+  pub fits-room : t ≡ true → k ≤ roomMost
+  unfolding fits
+  fits-room p = leb-true k roomMost (both (within image) (leb k roomMost) (sym e ∙ p) .1)
+
+  -- within the bounds, what is laid and answered is the text for the room
+  pub text-for : (place sought r : Said) (room room′ : List ℕ) → t ≡ true → place ≡ sought →
+      r ≡ lengthSaid (textSaid image place) → room′ ≡ roomAfter (textSaid image place) room →
+      (r ≡ lengthSaid (textFor image k sought)) × (room′ ≡ roomAfter (textFor image k sought) room)
+  unfolding textFor
+  text-for place sought r room room′ p q a b = rw (← e, p, ← q) (a, b)
+
+  -- outside them, the room stays
+  pub text-not : (place : Said) (room : List ℕ) → t ≡ false →
+      (refuses 14 [] ≡ lengthSaid (textFor image k place)) × (room ≡ roomAfter (textFor image k place) room)
+  unfolding textFor lengthSaid roomAfter
+  text-not place room p = rw (← e, p) (refl, refl)

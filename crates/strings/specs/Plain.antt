@@ -1,0 +1,8 @@
+-- What a text is made of. Definitions only.
+use Prim.Native.Nat.{ℕ, _<_}
+use mathlib.Core.List.{List, [], _∷_}
+
+-- ASCII without zeros
+unfoldable pub Plain : List ℕ → Type 0
+Plain [] = Unit {0}
+Plain (b ∷ l) = (0 < b) × (b < 128) × Plain l
