@@ -23,7 +23,7 @@ use Rattle.spread.specs.declared.Spreading.{Spreading}
 use Rattle.spread.specs.declared.SpreadAnswer.the-variants.{Last, No}
 use Rattle.spread.specs.Row.{addressEnd, Run, stopped, freeIn, roomIn, padded, Outcome, spreadOf}
 use Rattle.spread.specs.Laid.{laid, statesOf, newsOf, indexPast, Fitting}
-use Rattle.spread.specs.ReadBack.{frameOf}
+use Rattle.spread.specs.ReadBack.{frameOf, framesOf, readBack}
 use Rattle.spread.specs.Theorem.{back, Carries, Spreads}
 use Rattle.spread.specs.Answers.{saidLast}
 use Rattle.spread.proofs.Laws.{Lawful, law, out, run, bounds, reaches, fits, Met, ways}
@@ -54,8 +54,9 @@ module _ (row : List ℕ) (size : ℕ) (first : Builder) (index command address 
       let rest : List ℕ = drop (lastArea 0 plan * size) row in
       let count : first .count ≡ length olds = h .count-is in
       let b : back size first r ≡ carriedBy command address image index plan =
-      rw (a, s, count) (laid-back size small 0 olds news rest news-fit
-      ∙ news-back command address image plan (lastArea 0 plan) 0 0 1 (lastArea 0 plan) index (p .chain) (rising-last 0 1 m plan (p .rising)) (omega arith) (omega arith)) in
+      ap (λ (z : ℕ). readBack 0 z (framesOf size (r .areas) (r .states))) count
+      ∙ rw (a, s) (laid-back size small 0 olds news rest news-fit)
+      ∙ news-back command address image plan (lastArea 0 plan) 0 0 1 (lastArea 0 plan) index (p .chain) (rising-last 0 1 m plan (p .rising)) (omega arith) (omega arith) in
       let f₀ : frameOf (take size row) first ≡ frameOf row first = rw (take-take (first .used) size row used-fits) refl in
       record {
         counted = ap length s ∙ count-states olds news ∙ news-length command address image (lastArea 0 plan) 0 index plan;
