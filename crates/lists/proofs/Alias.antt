@@ -8,10 +8,10 @@ use Rattle.refusal.specs.Said.{Said, gives, absent, refuses}
 use Rattle.category.specs.Numbers as numbers
 use Rattle.category.specs.Category.{categorySaid}
 use Rattle.sii.specs.Fixed.{checksumEnd, setSaid, setImage}
-use Rattle.sii.specs.Alias.{SameFrom, AliasKept}
+use Rattle.sii.specs.Alias.{SameFrom}
 use Rattle.sii.proofs.Same.{categories, same-weaker, Behind, category-same, category-behind}
 use Rattle.sii.proofs.Alias.{alias-kept}
-use Rattle.lists.specs.Records.{Item, Listed, holds, no, records, inCategory}
+use Rattle.lists.specs.Records.{Item, records, inCategory}
 use Rattle.lists.specs.Inside.{SameIn, Moves, Local, ListsKept}
 use Rattle.lists.specs.SyncManagers.{smAt, smMost, smsOf}
 use Rattle.lists.specs.Fmmus.{usageAt, exAt, fmmuMost, usagesOf, exOf}

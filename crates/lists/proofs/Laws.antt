@@ -2,12 +2,12 @@
 use Prim.Native.Nat.{ℕ, zero, suc, _+_, _-_, _≤_, _<_}
 use native.Mathlib.Omega.{arith}
 use native.Mathlib.Nat.{sub-zero}
-use mathlib.Core.Path.{_≡_, refl, sym, ap, _∙_}
+use mathlib.Core.Path.{_≡_, refl, sym, _∙_}
 use mathlib.Core.List.{List, [], _∷_, _++_, append-assoc, append-nil}
-use lib.ListN.{length, replicate, set, length-append, length-replicate}
+use lib.ListN.{length, replicate, set, length-append}
 use lib.Seq.{set-at}
 use Rattle.refusal.specs.Said.{Said, gives, absent, refuses}
-use Rattle.lists.specs.Records.{Item, one, none, bad, Listed, holds, no, front, begin, records, inCategory, Back, back}
+use Rattle.lists.specs.Records.{Item, one, none, bad, Listed, holds, no, front, records, inCategory, back}
 
 -- ---- a loop over records
 
@@ -69,9 +69,6 @@ module _ {R : Type 0} (item : ℕ → Item R) (blank : R) (most start : ℕ) whe
     full-at r next (suc room) p h = absurd (let z : ⊥ = omega arith in z)
 
   module _ (places : List R) (count pos : ℕ) (g : Going item blank most start places count pos) where
-    pub going-length : length places ≡ most
-    going-length = rw (g .filled) (simp (length-append, length-replicate) (omega (arith, g .counts, g .total)))
-
     -- one record more
     pub going-more : (r : R) (next : ℕ) → one r next ≡ item pos → count < most → Going item blank most start (set places count r) (count + 1) next
     going-more r next p h = more places count pos r next (g .got) (g .room) (g .counts) (g .total) (g .filled) (g .same) p h

@@ -2,20 +2,20 @@
 use Prim.Native.Nat.{ℕ, zero, suc, _+_, _*_, _≤_, _<_}
 use native.Mathlib.Omega.{arith}
 use native.Mathlib.Numerals.{add-one}
-use mathlib.Core.Path.{_≡_, refl, sym, ap, _∙_}
+use mathlib.Core.Path.{_≡_, refl}
 use mathlib.Core.Bool.{Bool, true, false}
 use mathlib.Core.List.{List}
-use lib.Dec.{leb, ltb}
+use lib.Dec.{leb}
 use borrow.Author.Tests.{leb-true}
 use Rattle.refusal.specs.Said.{pick}
 use Rattle.wire.specs.Bytes.{byteAt, Bytes}
 use Rattle.sii.specs.Layout.{Field, byte, word, long, field}
-use Rattle.lists.specs.Layout.{physicalStartAddress, smLength, controlRegister, enableSyncM, syncMType, fmmuUsage, exSyncM, pdoIndex, nEntry, pdoSyncM, bitLength}
-use Rattle.lists.specs.Records.{Item, one, none, bad}
+use Rattle.lists.specs.Layout.{physicalStartAddress, smLength, controlRegister, enableSyncM, syncMType, fmmuUsage, exSyncM, pdoIndex, nEntry, pdoSyncM}
+use Rattle.lists.specs.Records.{one, none, bad}
 use Rattle.lists.specs.Inside.{SameIn, Moves, Local}
 use Rattle.lists.specs.SyncManagers.{smOf, smAdmits, smAt}
 use Rattle.lists.specs.Fmmus.{usageAdmits, usageOf, usageAt, exAt, fmmuAt}
-use Rattle.lists.specs.Pdos.{entriesOf, entryAt, pdoEnd, sumTo, entryBits, pdoOf, pdoAt, bitLenBelow}
+use Rattle.lists.specs.Pdos.{entriesOf, pdoEnd, sumTo, entryBits, pdoOf, pdoAt, bitLenBelow}
 use Rattle.lists.specs.declared.Pdo.{Pdo}
 use Rattle.lists.specs.declared.FmmuKind.{FmmuKind}
 use Rattle.lists.specs.declared.FmmuKind.the-variants as kind

@@ -1,6 +1,6 @@
 -- What each answer says, in document 01's numbers and values. Definitions only.
 use Prim.Native.Nat.{ℕ}
-use mathlib.Core.List.{List, []}
+use mathlib.Core.List.{[]}
 use Rattle.refusal.specs.Said.{Said, gives, saidOf}
 use Rattle.lists.specs.Records.{Item, one, none, bad, Back}
 use Rattle.lists.specs.declared.ListAnswer.{ListAnswer}

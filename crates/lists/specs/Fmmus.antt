@@ -1,7 +1,7 @@
 -- FMMUs as the SII lists them: the usage of each, and the sync manager of each extended one. Definitions only.
 use Prim.Native.Nat.{ℕ, _+_, min}
 use mathlib.Core.List.{List}
-use mathlib.Core.Bool.{Bool, true, false}
+use mathlib.Core.Bool.{Bool, true}
 use lib.Dec.{leb, eqb}
 use Rattle.refusal.specs.Said.{pick}
 use Rattle.category.specs.Numbers as numbers

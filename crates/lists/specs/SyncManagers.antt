@@ -1,7 +1,7 @@
 -- Sync managers as the SII lists them. Definitions only.
 use Prim.Native.Nat.{ℕ, _+_, _/_, _%_}
 use mathlib.Core.List.{List}
-use mathlib.Core.Bool.{Bool, true, false}
+use mathlib.Core.Bool.{Bool, false}
 use lib.Dec.{leb, ltb, eqb}
 use Rattle.refusal.specs.Said.{pick}
 use Rattle.category.specs.Numbers as numbers

@@ -3,34 +3,18 @@
 use Prim.Native.Nat.{ℕ, _+_, _≤_, _<_}
 use native.Mathlib.Omega.{arith}
 use mathlib.Core.Path.{_≡_, refl, sym, ap, _∙_}
-use mathlib.Core.List.{List, [], _∷_}
+use mathlib.Core.List.{List, []}
 use mathlib.Core.Bool.{Bool, true, false}
 use lib.ListN.{length, take}
 use lib.Dec.{leb}
 use borrow.Author.Tests.{leb-true}
-use Rattle.refusal.specs.Said.{Said, gives, refuses, pick}
-use Rattle.wire.specs.Bytes.{byteAt, le16, bytes16, overlay}
+use Rattle.refusal.specs.Said.{gives, refuses, pick}
+use Rattle.wire.specs.Bytes.{byteAt, le16, bytes16}
 use Rattle.wire.proofs.Laws.{length-overlay}
 use Rattle.crc.specs.Crc.{crcOf}
 use Rattle.eeprom.specs.Image.{within}
 use Rattle.category.specs.Numbers as numbers
-use Rattle.sii.specs.Layout.{
-  Field,
-  fixed,
-  field,
-  start,
-  checksum,
-  vendorId,
-  productCode,
-  revisionNumber,
-  serialNumber,
-  receiveMailboxOffset,
-  receiveMailboxSize,
-  sendMailboxOffset,
-  sendMailboxSize,
-  mailboxProtocol,
-  memorySize,
-}
+use Rattle.sii.specs.Layout.{Field, fixed, start, checksum, vendorId, productCode, revisionNumber, serialNumber, receiveMailboxOffset, receiveMailboxSize, sendMailboxOffset, sendMailboxSize, mailboxProtocol, memorySize}
 use Rattle.sii.specs.Fixed.{lent, aliasSaid, identityOf, identitySaid, mailboxOf, mailboxSaid, sizeSaid, checksumEnd, withAlias, withChecksum, aliased, setSaid, setImage}
 use Rattle.sii.specs.General.{generalOf, generalAdmits, generalIn, generalFound, generalSaid}
 use Rattle.sii.specs.Alias.{SameFrom, AliasKept}

@@ -1,7 +1,7 @@
 -- `bits` adds entry by entry: after k turns the sum is that of the first k, at most 255 each.
 use borrow.Author.Needs.{needs}
 use Prim.Native.Nat.{_≤_, _-_, _*_}
-use mathlib.Core.Path.{_≡_, sym, ap, _∙_}
+use mathlib.Core.Path.{_≡_, sym}
 use native.Mathlib.Omega.{arith}
 use Rattle.lists.specs.Pdos.{sumTo, entryBits}
 use Rattle.lists.proofs.Reading.{sum-none, sum-more}

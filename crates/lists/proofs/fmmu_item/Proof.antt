@@ -1,6 +1,4 @@
 -- `fmmu_item` goes by the kind.
-use mathlib.Core.Path.{ap}
-use Rattle.lists.specs.Fmmus.{fmmuAt}
 use borrow.Author.Needs.{needs}
 use Rattle.lists.proofs.fmmu_item.Statement.{statement}
 use Rattle.lists.proofs.fmmu_item.Tie as tie

@@ -5,7 +5,7 @@ use mathlib.Core.Path.{ap, sym, _∙_}
 use native.Mathlib.Omega.{arith}
 use Rattle.lists.specs.Fmmus.{fmmuAt, fmmuMost}
 use Rattle.lists.specs.Answers.{itemFmmu, backFmmus}
-use Rattle.lists.proofs.Laws.{Going, going-start, going-length, going-more, going-none, going-bad, going-full, refused}
+use Rattle.lists.proofs.Laws.{Going, going-start, going-more, going-none, going-bad, going-full, refused}
 use Rattle.lists.proofs.Reading.{fmmu-moves}
 use Rattle.lists.proofs.fmmus_in.Statement.{statement}
 use Rattle.lists.proofs.fmmus_in.Tie as tie

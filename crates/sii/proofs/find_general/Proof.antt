@@ -1,7 +1,7 @@
 -- `find_general` decodes the range that the search found.
 use mathlib.Core.Path.{ap, sym, _∙_}
 use Rattle.category.specs.Answers.{saidFound}
-use Rattle.sii.specs.General.{generalIn, generalFound}
+use Rattle.sii.specs.General.{generalFound}
 use Rattle.category.proofs.On.{on2-gives, on2-absent, on2-refuses}
 use borrow.Author.Needs.{needs}
 use Rattle.sii.proofs.find_general.Statement.{statement}
