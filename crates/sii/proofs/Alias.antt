@@ -18,7 +18,7 @@ use Rattle.sii.specs.Layout.{Field, fixed, start, checksum, vendorId, pr
 use Rattle.sii.specs.Fixed.{lent, aliasSaid, identityOf, identitySaid, mailboxOf, mailboxSaid, sizeSaid, checksumEnd, withAlias, withChecksum, aliased, setSaid, setImage}
 use Rattle.sii.specs.General.{generalOf, generalAdmits, generalIn, generalFound, generalSaid}
 use Rattle.sii.specs.Alias.{SameFrom, AliasKept}
-use Rattle.sii.proofs.Bytes.{overlay-before, overlay-behind, overlay-inside, overlay-front, bytes16-back}
+use Rattle.wire.proofs.Overlay.{overlay-before, overlay-past, overlay-inside, overlay-front, bytes16-back}
 use Rattle.sii.proofs.Same.{categories, same-weaker, field-same, within-same, on-category-same, category-same}
 
 -- ---- read-outs that look only behind the checksum
@@ -85,7 +85,7 @@ module _ (image : List ℕ) (alias : ℕ) (h : checksumEnd ≤ length image) whe
   unfolding withChecksum withAlias
   set-behind = record {
     size = set-length;
-    bytes = λ i k. overlay-behind (withAlias image alias) 14 _ (omega (arith, put-length)) i k ∙ overlay-behind image 8 (bytes16 alias) (omega arith) i (omega arith);
+    bytes = λ i k. overlay-past (withAlias image alias) 14 _ (omega (arith, put-length)) i k ∙ overlay-past image 8 (bytes16 alias) (omega arith) i (omega arith);
   }
 
   alias-byte : (k : ℕ) → k < 2 → byteAt (aliased image alias) (8 + k) ≡ byteAt (bytes16 alias) k

@@ -3,26 +3,24 @@ use Prim.Native.Nat.{ℕ, _+_, _-_, _≤_, _<_}
 use native.Mathlib.Omega.{arith}
 use mathlib.Core.Path.{_≡_, ap, _∙_}
 use mathlib.Core.List.{List, _++_, append-assoc}
-use lib.ListN.{length, getD, take, drop, length-append, length-take, List·getD-append}
+use lib.ListN.{length, getD, take, drop, length-take, List·getD-append}
 use lib.Seq.{getD-append-add, getD-take, getD-drop, take-at}
 use Rattle.wire.specs.Bytes.{byteAt, le16, bytes16, overlay}
+use Rattle.wire.proofs.Laws.{front}
 
 module _ (xs : List ℕ) (at : ℕ) (ys : List ℕ) (h : at + length ys ≤ length xs) where
-  front : length (take at xs ++ ys) ≡ at + length ys
-  front = simp (length-append, length-take) (omega arith)
-
   pub overlay-before : (i : ℕ) → i < at → byteAt (overlay xs at ys) i ≡ byteAt xs i
   unfolding byteAt overlay
   overlay-before i b =
-      let f : i < length (take at xs ++ ys) = omega (arith, front) in
+      let f : i < length (take at xs ++ ys) = omega (arith, front xs at ys h) in
       let g : i < length (take at xs) = simp length-take (omega arith) in
       List·getD-append (take at xs ++ ys) _ 255 i f ∙ List·getD-append (take at xs) ys 255 i g ∙ getD-take at xs i 255 b
 
-  pub overlay-behind : (i : ℕ) → at + length ys ≤ i → byteAt (overlay xs at ys) i ≡ byteAt xs i
+  pub overlay-past : (i : ℕ) → at + length ys ≤ i → byteAt (overlay xs at ys) i ≡ byteAt xs i
   unfolding byteAt overlay
-  overlay-behind i b =
+  overlay-past i b =
       let n = i - (at + length ys) in
-      let e : i ≡ length (take at xs ++ ys) + n = omega (arith, front) in
+      let e : i ≡ length (take at xs ++ ys) + n = omega (arith, front xs at ys h) in
       let f : at + length ys + n ≡ i = omega arith in
       ap (λ (j : ℕ). getD (take at xs ++ ys ++ drop (at + length ys) xs) j 255) e
       ∙ getD-append-add (take at xs ++ ys) _ n 255
@@ -32,7 +30,7 @@ module _ (xs : List ℕ) (at : ℕ) (ys : List ℕ) (h : at + length ys ≤ leng
   pub overlay-inside : (k : ℕ) → k < length ys → byteAt (overlay xs at ys) (at + k) ≡ byteAt ys k
   unfolding byteAt overlay
   overlay-inside k b =
-      let f : at + k < length (take at xs ++ ys) = omega (arith, front) in
+      let f : at + k < length (take at xs ++ ys) = omega (arith, front xs at ys h) in
       let g : at + k ≡ length (take at xs) + k = simp length-take (omega arith) in
       List·getD-append (take at xs ++ ys) _ 255 (at + k) f
       ∙ ap (λ (j : ℕ). getD (take at xs ++ ys) j 255) g
