@@ -8,13 +8,13 @@ use lib.ListN.{length, take, drop, replicate, length-append, length-replicate, l
 use lib.Seq.{take-at, drop-at, take-all}
 use Rattle.pdu.specs.declared.PduFields.{PduFields}
 use Rattle.pdu.specs.Pdu.{Pdu, follows, layout, AllFit, frameHeader}
-use Rattle.pdu.specs.Read.{Reading, read, readOf, shown, shownAll, payloadOf, withMore}
+use Rattle.pdu.specs.Read.{Reading, read, readOf, pdusOf, shown, shownAll, payloadOf, withMore}
 use Rattle.pdu.proofs.Reading.{frame-read, frame-payloads}
 use Rattle.created_frame.specs.declared.Builder.{Builder}
 use Rattle.created_frame.specs.Built.{Built}
 use Rattle.created_frame.proofs.Built.{built-length}
 use Rattle.spread.specs.Laid.{laidIn, stateOf, laid, statesOf, Fitting, AllBuilt}
-use Rattle.spread.specs.ReadBack.{frameOf, framesOf, fieldsOf, fieldsIn, AllRead, Back, backAt, readBack, Kept, same, more-follows, StillThere}
+use Rattle.spread.specs.ReadBack.{frameOf, framesOf, fieldsIn, AllRead, Back, backAt, readBack, Kept, same, more-follows, StillThere}
 use Rattle.spread.proofs.Lists.{map-append, map-drop, map-take}
 
 -- ---- an area
@@ -79,7 +79,7 @@ pub behind-olds : (a : ℕ) (f : List ℕ) (olds ps : List Pdu) → readOf f ≡
     → map (payloadOf f) (shownAll 2 (olds ++ ps)) ≡ map (λ (p : Pdu). p .payload) (olds ++ ps)
     → map (backAt a f) (drop (length olds) (fieldsIn f)) ≡ map (backOf a) ps
 behind-olds a f olds ps r e =
-    ap (λ (z : Reading). map (backAt a f) (drop (length olds) (fieldsOf z))) r
+    ap (λ (z : Reading). map (backAt a f) (drop (length olds) (pdusOf z))) r
     ∙ map-drop (backAt a f) (length olds) (shownAll 2 (olds ++ ps))
     ∙ ap (λ (z : List Back). drop (length olds) z) (backs-one a 2 f (olds ++ ps) e ∙ map-append (backOf a) olds ps)
     ∙ drop-at (map (backOf a) olds) (map (backOf a) ps) (length olds) (length-map olds (backOf a))
@@ -107,8 +107,8 @@ pub still-there : (f₀ f : List ℕ) (olds ps : List Pdu)
     → readOf f ≡ read (shownAll 2 (olds ++ ps)) → map (payloadOf f) (shownAll 2 (olds ++ ps)) ≡ map (λ (p : Pdu). p .payload) (olds ++ ps)
     → StillThere (length olds) f₀ f
 still-there f₀ f olds ps r₀ e₀ r e =
-    let v₀ : fieldsIn f₀ ≡ shownAll 2 olds = ap fieldsOf r₀ in
-    let v : fieldsIn f ≡ shownAll 2 (olds ++ ps) = ap fieldsOf r in
+    let v₀ : fieldsIn f₀ ≡ shownAll 2 olds = ap pdusOf r₀ in
+    let v : fieldsIn f ≡ shownAll 2 (olds ++ ps) = ap pdusOf r in
     record {
       were = r₀ ∙ ap read (sym v₀);
       counted = ap length v₀ ∙ shown-length 2 olds;
@@ -154,7 +154,7 @@ module _ (size : ℕ) (m : size ≤ 2047) where
   laid-accepted olds (ps ∷ pss) rest f =
       let y = laid size [] pss ++ rest in
       let r = one-read size (olds ++ ps) y m (f .0) (f .1) in
-      rw (row-split olds ps pss rest, next-area (olds ++ ps) y (f .0)) (r ∙ ap (λ (z : Reading). read (fieldsOf z)) (sym r), laid-accepted [] pss rest (f .2))
+      rw (row-split olds ps pss rest, next-area (olds ++ ps) y (f .0)) (r ∙ ap (λ (z : Reading). read (pdusOf z)) (sym r), laid-accepted [] pss rest (f .2))
 
   -- .. and each area is one of our builder's
   pub all-built : (olds : List Pdu) (pss : List (List Pdu)) (rest : List ℕ) → Fitting size olds pss → AllBuilt size olds pss (laid size olds pss ++ rest)
