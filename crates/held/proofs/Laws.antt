@@ -45,6 +45,11 @@ pub overrun-apart : (p e pos : ℕ) (s : Said) → refuses 2 (p ∷ e ∷ []) �
 unfolding alone stands
 overrun-apart p e pos s h = (ap alone h, ap (stands pos) h)
 
+-- refusal 7 with the range as it then stands
+pub stopped-apart : (p e pos : ℕ) (s : Said) → refuses 7 (p ∷ e ∷ []) ≡ s → Apart (saidOf NotWritable) p pos s
+unfolding alone stands
+stopped-apart p e pos s h = (ap alone h, ap (stands pos) h)
+
 -- a refusal of the core's enum says no range
 alone-refusal : (x : Refusal) (pos : ℕ) → Apart (saidOf x) pos pos (saidOf x)
 unfolding alone stands

@@ -4,10 +4,11 @@ use Prim.Native.Nat.{ℕ, _-_}
 use mathlib.Core.List.{List, []}
 use lib.Dec.{eqb}
 use lib.ListN.{length, take, getD}
-use denote.Ref.{RefT, now}
+use denote.Ref.{RefT, now, at-last}
 use Rattle.refusal.specs.Said.{Said, gives, absent, refuses, pick}
-use Rattle.eeprom.specs.Range.{byteSaid, skipSaid, readSaid, readBuf, exactSaid, exactBuf}
+use Rattle.eeprom.specs.Range.{byteSaid, skipSaid, readSaid, readBuf, exactSaid, exactBuf, writeSaid, writeImage}
 use Rattle.held.specs.declared.EepromRange.{EepromRange}
+use Rattle.held.specs.declared.EepromRangeMut.{EepromRangeMut}
 
 -- ---- what the core says, taken apart
 
@@ -68,3 +69,17 @@ exactOf r buf = exactSaid (now (r .image)) (r .«byte_pos») (r .end) (length bu
 -- what an exact read leaves in the buffer
 abbrev pub exactInto : EepromRange → List ℕ → List ℕ
 exactInto r buf = exactBuf (now (r .image)) (r .«byte_pos») (r .end) buf
+
+-- ---- what it says of a range that is written
+
+abbrev pub writeOf : EepromRangeMut → List ℕ → Said
+writeOf r bytes = writeSaid (now (r .image)) (r .«byte_pos») (r .end) bytes
+
+-- the range after a write: the same loan at the image that the core leaves, the position where it says
+abbrev pub written : EepromRangeMut → List ℕ → EepromRangeMut
+written r bytes =
+    record {
+      image = at-last (r .image) (writeImage (now (r .image)) (r .«byte_pos») (r .end) bytes);
+      «byte_pos» = stands (r .«byte_pos») (writeOf r bytes);
+      end = r .end;
+    }

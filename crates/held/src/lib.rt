@@ -11,11 +11,12 @@ use step::exact_step;
 use step::range_step;
 use step::read_step;
 use step::skip_step;
+use step::write_step;
 ghost use mathlib.Core.Path.{_≡_};
 ghost use Rattle.ports.specs.Ports.{timesSet};
 ghost use Rattle.ports.specs.Assigning.{assignedOf};
 ghost use Rattle.eeprom.specs.Range.{newSaid};
-ghost use Rattle.held.specs.Range.{alone, rangeOn, after, skipOf, byteOf, readOf, readInto, exactOf, exactInto};
+ghost use Rattle.held.specs.Range.{alone, rangeOn, after, skipOf, byteOf, readOf, readInto, exactOf, exactInto, writeOf, written};
 ghost use Rattle.held.specs.Answers.{saidOutcome, saidByteRead, saidCounted};
 
 mod step;
@@ -23,6 +24,13 @@ mod step;
 // A range of a lent image: where it stands, and where it ends, in bytes. The Rust's keeps a provider instead of the image.
 pub struct EepromRange<'a> {
     pub image: &'a [u8],
+    pub byte_pos: Pos,
+    pub end: Pos,
+}
+
+// The same of an image that is lent to be written.
+pub struct EepromRangeMut<'a> {
+    pub image: &'a mut [u8],
     pub byte_pos: Pos,
     pub end: Pos,
 }
@@ -100,6 +108,19 @@ impl<'a> EepromRange<'a> {
         ensures { λ d. ⌜ (saidOutcome d ≡ alone (exactOf (now (self .entry)) (now (buf .entry)))) × ((now (self .exit) ≡ after (now (self .entry)) (exactOf (now (self .entry)) (now (buf .entry)))) × (now (buf .exit) ≡ exactInto (now (self .entry)) (now (buf .entry)))) ⌝ }
     {
         let s = exact_step(self.image, self.byte_pos, self.end, chunk, buf);
+        self.byte_pos = s.byte_pos;
+        s.answer
+    }
+}
+
+impl<'a> EepromRangeMut<'a> {
+    // Writes the bytes as words, while the position is before the end. Refuses 14, then 7, which keeps the words already written.
+    pub fn write(&mut self, bytes: &[u8]) -> Counted
+        ensures { λ d. ⌜ (saidCounted d ≡ alone (writeOf (now (self .entry)) (now (bytes .entry)))) × (now (self .exit) ≡ written (now (self .entry)) (now (bytes .entry))) ⌝ }
+    {
+        let byte_pos = self.byte_pos;
+        let end = self.end;
+        let s = write_step(&mut *self.image, byte_pos, end, bytes);
         self.byte_pos = s.byte_pos;
         s.answer
     }

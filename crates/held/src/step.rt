@@ -9,10 +9,11 @@ use eeprom::Pos;
 use eeprom::Range;
 use eeprom::RangeAnswer;
 use eeprom::Reading;
+use eeprom::Writing;
 use refusal::Refusal;
 ghost use mathlib.Core.Path.{_≡_};
 ghost use lib.ListN.{length};
-ghost use Rattle.eeprom.specs.Range.{newSaid, skipSaid, byteSaid, readSaid, readBuf, exactSaid, exactBuf};
+ghost use Rattle.eeprom.specs.Range.{newSaid, skipSaid, byteSaid, readSaid, readBuf, exactSaid, exactBuf, writeSaid, writeImage};
 ghost use Rattle.held.specs.Range.{alone, stands, ends};
 ghost use Rattle.held.specs.Answers.{saidOutcome, saidByteRead, saidCounted};
 
@@ -134,6 +135,26 @@ pub(crate) fn exact_step(
         },
         Exact::No(x) => OutcomeStep {
             answer: Outcome::No(x),
+            byte_pos,
+        },
+    }
+}
+
+pub(crate) fn write_step(image: &mut [u8], byte_pos: Pos, end: Pos, bytes: &[u8]) -> CountStep
+    ensures { λ r. ⌜ ((saidCounted (r .answer) ≡ alone (writeSaid (now (image .entry)) «byte_pos» end (now (bytes .entry)))) × (r .«byte_pos» ≡ stands «byte_pos» (writeSaid (now (image .entry)) «byte_pos» end (now (bytes .entry))))) × (now (image .exit) ≡ writeImage (now (image .entry)) «byte_pos» end (now (bytes .entry))) ⌝ }
+{
+    let range = Range { byte_pos, end };
+    match range.write(image, bytes) {
+        Writing::Written(n, g) => CountStep {
+            answer: Counted::Bytes(n),
+            byte_pos: g.byte_pos,
+        },
+        Writing::Stopped(g) => CountStep {
+            answer: Counted::No(Refusal::NotWritable),
+            byte_pos: g.byte_pos,
+        },
+        Writing::No(x) => CountStep {
+            answer: Counted::No(x),
             byte_pos,
         },
     }
