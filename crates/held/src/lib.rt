@@ -15,8 +15,8 @@ use step::write_step;
 ghost use mathlib.Core.Path.{_≡_};
 ghost use Rattle.ports.specs.Ports.{timesSet};
 ghost use Rattle.ports.specs.Assigning.{assignedOf};
-ghost use Rattle.eeprom.specs.Range.{newSaid};
-ghost use Rattle.held.specs.Range.{alone, rangeOn, after, skipOf, byteOf, readOf, readInto, exactOf, exactInto, writeOf, written};
+ghost use Rattle.eeprom.specs.Range.{newSaid, byteSaid};
+ghost use Rattle.held.specs.Range.{alone, stands, rangeOn, after, skipOf, byteOf, readOf, readInto, exactOf, exactInto, writeOf, written};
 ghost use Rattle.held.specs.Answers.{saidOutcome, saidByteRead, saidCounted};
 
 mod step;
@@ -45,6 +45,12 @@ pub enum Outcome {
 pub enum ByteRead {
     Byte(u8),
     No(Refusal),
+}
+
+// A byte, and the position after it.
+pub struct ByteStep {
+    pub answer: ByteRead,
+    pub byte_pos: Pos,
 }
 
 // How many bytes.
@@ -123,6 +129,22 @@ impl<'a> EepromRangeMut<'a> {
         let s = write_step(&mut *self.image, byte_pos, end, bytes);
         self.byte_pos = s.byte_pos;
         s.answer
+    }
+}
+
+// The byte at a position of the image, and the position after it: a range made here, lent to `read_byte`, and looked at again. Refuses 14, then 1.
+pub fn byte_in(image: &[u8], byte_pos: Pos, end: Pos, chunk: Chunk) -> ByteStep
+    ensures { λ r. ⌜ (saidByteRead (r .answer) ≡ alone (byteSaid (now (image .entry)) «byte_pos» end)) × (r .«byte_pos» ≡ stands «byte_pos» (byteSaid (now (image .entry)) «byte_pos» end)) ⌝ }
+{
+    let mut range = EepromRange {
+        image: image,
+        byte_pos: byte_pos,
+        end: end,
+    };
+    let answer = range.read_byte(chunk);
+    ByteStep {
+        answer: answer,
+        byte_pos: range.byte_pos,
     }
 }
 

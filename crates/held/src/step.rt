@@ -1,5 +1,6 @@
 // One call of the core each, its answer set apart from the position after it: all that decides stands here, by value, and the calls over a lent range only copy in and out.
 use crate::ByteRead;
+use crate::ByteStep;
 use crate::Counted;
 use crate::Outcome;
 use eeprom::ByteAnswer;
@@ -27,12 +28,6 @@ pub(crate) struct RangeStep {
 // An outcome, and the position after it.
 pub(crate) struct OutcomeStep {
     pub(crate) answer: Outcome,
-    pub(crate) byte_pos: Pos,
-}
-
-// A byte, and the position after it.
-pub(crate) struct ByteStep {
-    pub(crate) answer: ByteRead,
     pub(crate) byte_pos: Pos,
 }
 

@@ -52,13 +52,13 @@ use Rattle.eeprom.specs.declared.Chunk.{Chunk}
 use Rattle.held.specs.Range.{alone, stands, movedTo}
 use Rattle.held.specs.Answers.{saidByteRead}
 use Rattle.held.specs.declared.EepromRange.{EepromRange}
-use Rattle.held.specs.declared.step.ByteStep.{ByteStep}
+use Rattle.held.specs.declared.ByteStep.{ByteStep}
 use Rattle.eeprom.proofs.Chunk as K
 use Rattle.eeprom.proofs.Chunk.Laws as K′
 use Rattle.held.proofs.EepromRange as T
 use Rattle.held.proofs.EepromRange.Laws as T′
-use Rattle.held.proofs.step.ByteStep as R
-use Rattle.held.proofs.step.ByteStep.Laws as R′
+use Rattle.held.proofs.ByteStep as R
+use Rattle.held.proofs.ByteStep.Laws as R′
 use Rattle.held.proofs.ByteRead as S
 use Rattle.held.proofs.ByteRead.Laws as S′
 use Rattle.held.proofs.step.byte_step as callee
