@@ -15,7 +15,7 @@ use step::write_step;
 ghost use mathlib.Core.Path.{_≡_};
 ghost use Rattle.ports.specs.Ports.{timesSet};
 ghost use Rattle.ports.specs.Assigning.{assignedOf};
-ghost use Rattle.eeprom.specs.Range.{newSaid, byteSaid};
+ghost use Rattle.eeprom.specs.Range.{newSaid, byteSaid, writeSaid, writeImage};
 ghost use Rattle.held.specs.Range.{alone, stands, rangeOn, after, skipOf, byteOf, readOf, readInto, exactOf, exactInto, writeOf, written};
 ghost use Rattle.held.specs.Answers.{saidOutcome, saidByteRead, saidCounted};
 
@@ -57,6 +57,12 @@ pub struct ByteStep {
 pub enum Counted {
     Bytes(Pos),
     No(Refusal),
+}
+
+// A count of bytes, and the position after them.
+pub struct CountStep {
+    pub answer: Counted,
+    pub byte_pos: Pos,
 }
 
 // A range that was asked for; refused, it is the empty one at 0.
@@ -143,6 +149,22 @@ pub fn byte_in(image: &[u8], byte_pos: Pos, end: Pos, chunk: Chunk) -> ByteStep
     };
     let answer = range.read_byte(chunk);
     ByteStep {
+        answer: answer,
+        byte_pos: range.byte_pos,
+    }
+}
+
+// Writes to the image at a position, and says the position after that: a range made here, lent to `write`, and looked at again. Refuses 14, then 7.
+pub fn write_in(image: &mut [u8], byte_pos: Pos, end: Pos, bytes: &[u8]) -> CountStep
+    ensures { λ r. ⌜ ((saidCounted (r .answer) ≡ alone (writeSaid (now (image .entry)) «byte_pos» end (now (bytes .entry)))) × (r .«byte_pos» ≡ stands «byte_pos» (writeSaid (now (image .entry)) «byte_pos» end (now (bytes .entry))))) × (now (image .exit) ≡ writeImage (now (image .entry)) «byte_pos» end (now (bytes .entry))) ⌝ }
+{
+    let mut range = EepromRangeMut {
+        image: image,
+        byte_pos: byte_pos,
+        end: end,
+    };
+    let answer = range.write(bytes);
+    CountStep {
         answer: answer,
         byte_pos: range.byte_pos,
     }

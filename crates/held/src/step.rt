@@ -1,6 +1,7 @@
 // One call of the core each, its answer set apart from the position after it: all that decides stands here, by value, and the calls over a lent range only copy in and out.
 use crate::ByteRead;
 use crate::ByteStep;
+use crate::CountStep;
 use crate::Counted;
 use crate::Outcome;
 use eeprom::ByteAnswer;
@@ -28,12 +29,6 @@ pub(crate) struct RangeStep {
 // An outcome, and the position after it.
 pub(crate) struct OutcomeStep {
     pub(crate) answer: Outcome,
-    pub(crate) byte_pos: Pos,
-}
-
-// A count of bytes, and the position after them.
-pub(crate) struct CountStep {
-    pub(crate) answer: Counted,
     pub(crate) byte_pos: Pos,
 }
 

@@ -52,13 +52,13 @@ use Rattle.eeprom.specs.declared.Chunk.{Chunk}
 use Rattle.held.specs.Range.{alone, stands, movedTo}
 use Rattle.held.specs.Answers.{saidCounted}
 use Rattle.held.specs.declared.EepromRange.{EepromRange}
-use Rattle.held.specs.declared.step.CountStep.{CountStep}
+use Rattle.held.specs.declared.CountStep.{CountStep}
 use Rattle.eeprom.proofs.Chunk as K
 use Rattle.eeprom.proofs.Chunk.Laws as K′
 use Rattle.held.proofs.EepromRange as T
 use Rattle.held.proofs.EepromRange.Laws as T′
-use Rattle.held.proofs.step.CountStep as R
-use Rattle.held.proofs.step.CountStep.Laws as R′
+use Rattle.held.proofs.CountStep as R
+use Rattle.held.proofs.CountStep.Laws as R′
 use Rattle.held.proofs.Counted as S
 use Rattle.held.proofs.Counted.Laws as S′
 use Rattle.held.proofs.step.read_step as callee

@@ -50,11 +50,11 @@ use Rattle.eeprom.specs.Range.{writeSaid, writeImage}
 use Rattle.held.specs.Range.{alone, stands}
 use Rattle.held.specs.Answers.{saidCounted}
 use Rattle.held.specs.declared.EepromRangeMut.{EepromRangeMut}
-use Rattle.held.specs.declared.step.CountStep.{CountStep}
+use Rattle.held.specs.declared.CountStep.{CountStep}
 use Rattle.held.proofs.EepromRangeMut as T
 use Rattle.held.proofs.EepromRangeMut.Laws as T′
-use Rattle.held.proofs.step.CountStep as R
-use Rattle.held.proofs.step.CountStep.Laws as R′
+use Rattle.held.proofs.CountStep as R
+use Rattle.held.proofs.CountStep.Laws as R′
 use Rattle.held.proofs.Counted as S
 use Rattle.held.proofs.Counted.Laws as S′
 use Rattle.held.proofs.Again.{LentAgain, lends-again, comes-back}
