@@ -12,9 +12,29 @@ HOLDS = {"general": 30, "fmmus": 40, "sms": 41, "fmmuex": 42}
 
 def small():
     yield from heads()
+    yield from largest()
     yield from searches()
     yield from lists()
     yield from generals()
+
+
+def largest():
+    """As large as an image may be, and a byte more; in every call."""
+    for length in (65_536, 65_537):
+        data = bytes(128) + b"\x29\x00" + b"\xff\x00" * ((length - 130) // 2)
+        data += bytes(length - len(data))
+        for kind in READ_OUTS:
+            yield line(kind, data, 4)
+        yield line("category", data, 8, 41)
+        yield line("pdos", data, 8, 50)
+        yield line("string", data, 4, 1, b"\xa5")
+        yield line("name", data, 4, b"\xa5")
+        yield line("desc", data, 4, b"\xa5")
+        yield line("setalias", data, 1)
+        yield line("byte", data, 8, 65_534, 0)
+        yield line("read", data, 4, 65_530, 65_534, b"\xee" * 5)
+        yield line("exact", data, 4, 65_530, 65_534, b"\xee" * 5)
+        yield line("write", data, 65_532, 65_534, b"\xaa\xbb\xcc")
 
 
 def heads():
