@@ -17,6 +17,7 @@ def small():
     yield from second_pushes()
     yield from states()
     yield from commands()
+    yield from full_areas()
     yield from read_frames()
 
 
@@ -73,6 +74,23 @@ def commands():
         yield line("push", bytes(size), 0, 0, 0, 9, 1, 0, b"", 2_035)
         yield line("rest", bytes(size), 0, 0, 0, 9, 1, 0, ramp(2_100))
         yield line("canpush", size, 0, 0, 0, 2_035)
+
+
+def full_areas():
+    """As many PDUs as an area can have, and frames of that size to read."""
+    for count in (168, 169, 170, 171):
+        state = (12 * count, count, 12 * (count - 1))
+        for size in around(2_040, 2_046):
+            yield line("push", bytes(size), *state, 250, 1, 0, b"", 0)
+            yield line("rest", bytes(size), *state, 250, 1, 0, b"\x01")
+            yield line("canpush", size, *state, 0)
+        body = b"".join(pdu(4, place, place, b"", place < count - 1)
+                        for place in range(count))
+        yield line("frame", framed(body[:2_047]))
+    for length in around(2_035):
+        body = pdu(12, 1, 2, ramp(length), False)
+        yield line("frame", framed(body[:2_047]))
+        yield line("frame", framed(body[:2_047])[:-1])
 
 
 # --- Frames to read ---
@@ -135,6 +153,8 @@ def some(rng):
     for _ in range(rng.randint(1, 6)):
         free = size - state[0]
         yield line("canpush", size, *state, near(rng, (max(0, free - 12),)))
+        if rng.random() < 0.1:
+            area = marked(rng, area, state)
         request, (record, slices) = pushed(rng, area, state, index)
         yield request
         *state, index = record
@@ -149,7 +169,7 @@ def some(rng):
 def area_size(rng):
     pick = rng.random()
     if pick < 0.93:
-        return rng.randint(0, 120)
+        return rng.randint(rng.choice((0, 30, 60)), 160)
     if pick < 0.995:
         return rng.randint(120, 500)
     return near(rng, (2_047, 1_486))
@@ -157,7 +177,7 @@ def area_size(rng):
 
 def pushed(rng, area, state, index):
     free = max(0, len(area) - state[0])
-    length = rng.choice((0, 1, 2, 4, rng.randint(0, 20), free // 2,
+    length = rng.choice((0, 1, 2, 4, rng.randint(0, 20), free // 3,
                          near(rng, (max(0, free - 12),))))
     data = rng.randbytes(length)
     command, address = any_command(rng), number(rng, U32)
@@ -167,8 +187,19 @@ def pushed(rng, area, state, index):
         return asked("rest", area, *state, index, command, address, data)
     override = rng.choice((0, 0, 0, length, length + 1, number(rng)))
     if rng.random() < 0.9:
-        override = min(override, free)
+        override = min(override, max(0, free - 12))
     return asked("push", area, *state, index, command, address, data, override)
+
+
+def marked(rng, area, state):
+    """The area as handed in by someone who set bits in the last PDU's flags
+    or behind it."""
+    marked = bytearray(area)
+    if state[1]:
+        marked[state[2] + 7] ^= rng.choice((0x08, 0x10, 0x38, 0x40, 0x80))
+    behind = marked[state[0]:]
+    marked[state[0]:] = rng.randbytes(len(behind))
+    return bytes(marked)
 
 
 def any_command(rng):

@@ -21,6 +21,7 @@ def small():
                 yield from all_lengths(size, count, state)
     yield from bench()
     yield from bounds()
+    yield from longest()
 
 
 def first_states(size):
@@ -72,6 +73,14 @@ def bounds():
                            7, ramp(25))
 
 
+def longest():
+    """What the most and largest areas can take, and the longest image."""
+    for length in (65_120, 65_121, 65_535, 65_536):
+        yield line("spread", 2_047, bytes(32 * 2_047), 0, 0, 0, 240, 11, 9,
+                   ramp(length))
+    yield line("spread", 2_047, bytes(33 * 2_047), 0, 0, 0, 240, 11, 9, b"")
+
+
 def some(rng):
     """The first area is filled by pushes, then the image is spread."""
     size, count = row(rng)
@@ -95,7 +104,7 @@ def some(rng):
 def row(rng):
     pick = rng.random()
     if pick < 0.9:
-        return rng.randint(1, 60), rng.randint(1, 6)
+        return rng.randint(rng.choice((1, 13, 13)), 60), rng.randint(1, 6)
     if pick < 0.97:
         return rng.randint(1, 40), rng.randint(7, 33)
     if pick < 0.998:
@@ -106,7 +115,9 @@ def row(rng):
 def image_length(rng, most):
     if rng.random() < 0.003:
         return near(rng, (65_535,), most=65_536)
-    return rng.choice((0, 1, rng.randint(0, most), rng.randint(0, most),
+    if rng.random() < 0.05:
+        return 0
+    return rng.choice((1, rng.randint(0, most), rng.randint(0, most),
                        *around(most)))
 
 
