@@ -84,7 +84,7 @@ def built(program, count, seed):
     lines = []
     while len(lines) < count:
         lines += pushes(rng)
-        lines += cases.spread.some(rng)
+        lines += cases.spread.some(rng, off=0)
     found = {}
     for request, answer in zip(lines, program.ask(lines)):
         for area, used in left_behind(request, answer):
@@ -125,18 +125,7 @@ def left_behind(request, answer):
         return [(slice_, record[0])]
     size, used = taken.size, given[1::3]
     return [(slice_[place * size:(place + 1) * size], used[place])
-            for place in range(given[0])
-            if place > 0 or last_ends_there(taken)]
-
-
-def last_ends_there(first):
-    """Some states of the first area are a little off on purpose: then its
-    last PDU doesn't end at the used bytes, and it is no frame."""
-    if first.count == 0:
-        return True
-    flags = first.areas[first.last + 6:first.last + 8]
-    length = int.from_bytes(flags, "little") & 0x7FF
-    return first.last + 12 + length == first.used
+            for place in range(given[0])]
 
 
 # --- Reading ---

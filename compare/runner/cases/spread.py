@@ -81,8 +81,9 @@ def longest():
     yield line("spread", 2_047, bytes(33 * 2_047), 0, 0, 0, 240, 11, 9, b"")
 
 
-def some(rng):
-    """The first area is filled by pushes, then the image is spread."""
+def some(rng, off=0.06):
+    """The first area is filled by pushes, then the image is spread. A state
+    is now and then a little off."""
     size, count = row(rng)
     areas = rng.randbytes(size * count)
     state, index = (0, 0, 0), rng.choice((0, 240, 255, rng.randint(0, 255)))
@@ -97,7 +98,7 @@ def some(rng):
     areas = first + areas[size:]
     for _ in range(3):
         length = image_length(rng, capacity(size, count, state[0]))
-        yield line("spread", size, areas, *damaged(rng, state), index,
+        yield line("spread", size, areas, *damaged(rng, state, off), index,
                    command(rng), address(rng, length), rng.randbytes(length))
 
 
@@ -131,9 +132,9 @@ def address(rng, length):
     return number(rng, U32)
 
 
-def damaged(rng, state):
+def damaged(rng, state, off):
     state = list(state)
-    if rng.random() < 0.06:
+    if rng.random() < off:
         place = rng.randrange(3)
         state[place] = max(0, state[place] + rng.choice((-12, -1, 1, 12)))
     return state
