@@ -27,6 +27,7 @@ def largest():
             yield line(kind, data, 4)
         yield line("category", data, 8, 41)
         yield line("pdos", data, 8, 50)
+        yield line("string", data, 4, 0, b"\xa5")
         yield line("string", data, 4, 1, b"\xa5")
         yield line("name", data, 4, b"\xa5")
         yield line("desc", data, 4, b"\xa5")
