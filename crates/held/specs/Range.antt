@@ -40,6 +40,9 @@ ends (refuses n l) = 0
 abbrev pub rangeOn : RefT (List ℕ) → Said → EepromRange
 rangeOn image s = record { image = image; «byte_pos» = stands 0 s; end = ends s }
 
+abbrev pub rangeMutOn : RefT (List ℕ) → Said → EepromRangeMut
+rangeMutOn image s = record { image = image; «byte_pos» = stands 0 s; end = ends s }
+
 -- the range, at another position
 abbrev pub movedTo : EepromRange → ℕ → EepromRange
 movedTo r pos = record { image = r .image; «byte_pos» = pos; end = r .end }
