@@ -8,14 +8,17 @@ use Rattle.held.specs.declared.ByteRead.the-variants as byte
 use Rattle.held.specs.declared.Counted.{Counted}
 use Rattle.held.specs.declared.Counted.the-variants as counted
 
+-- done is said with no values
 abbrev pub saidOutcome : Outcome → Said
 saidOutcome outcome.Done = gives []
 saidOutcome (outcome.No x) = saidOf x
 
+-- the byte
 abbrev pub saidByteRead : ByteRead → Said
 saidByteRead (byte.Byte b) = gives (b ∷ [])
 saidByteRead (byte.No x) = saidOf x
 
+-- how many bytes
 abbrev pub saidCounted : Counted → Said
 saidCounted (counted.Bytes n) = gives (n ∷ [])
 saidCounted (counted.No x) = saidOf x

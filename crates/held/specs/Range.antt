@@ -40,6 +40,10 @@ ends (refuses n l) = 0
 abbrev pub rangeOn : RefT (List ℕ) → Said → EepromRange
 rangeOn image s = record { image = image; «byte_pos» = stands 0 s; end = ends s }
 
+-- the same over an image that is lent to be written
+abbrev pub rangeMutOn : RefT (List ℕ) → Said → EepromRangeMut
+rangeMutOn image s = record { image = image; «byte_pos» = stands 0 s; end = ends s }
+
 -- the range, at another position
 abbrev pub movedTo : EepromRange → ℕ → EepromRange
 movedTo r pos = record { image = r .image; «byte_pos» = pos; end = r .end }
@@ -50,12 +54,15 @@ after r s = movedTo r (stands (r .«byte_pos») s)
 
 -- ---- what the core says of a range
 
+-- of a skip
 abbrev pub skipOf : EepromRange → ℕ → Said
 skipOf r skip = skipSaid (r .«byte_pos») (r .end) skip
 
+-- of a byte read
 abbrev pub byteOf : EepromRange → Said
 byteOf r = byteSaid (now (r .image)) (r .«byte_pos») (r .end)
 
+-- of a read into the buffer
 abbrev pub readOf : EepromRange → List ℕ → Said
 readOf r buf = readSaid (now (r .image)) (r .«byte_pos») (r .end) (length buf)
 
@@ -63,6 +70,7 @@ readOf r buf = readSaid (now (r .image)) (r .«byte_pos») (r .end) (length buf)
 abbrev pub readInto : EepromRange → List ℕ → List ℕ
 readInto r buf = readBuf (now (r .image)) (r .«byte_pos») (r .end) buf
 
+-- of an exact read into the whole buffer
 abbrev pub exactOf : EepromRange → List ℕ → Said
 exactOf r buf = exactSaid (now (r .image)) (r .«byte_pos») (r .end) (length buf)
 
@@ -72,6 +80,7 @@ exactInto r buf = exactBuf (now (r .image)) (r .«byte_pos») (r .end) buf
 
 -- ---- what it says of a range that is written
 
+-- of a write of these bytes
 abbrev pub writeOf : EepromRangeMut → List ℕ → Said
 writeOf r bytes = writeSaid (now (r .image)) (r .«byte_pos») (r .end) bytes
 

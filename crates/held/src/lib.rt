@@ -16,7 +16,7 @@ ghost use mathlib.Core.Path.{_≡_};
 ghost use Rattle.ports.specs.Ports.{timesSet};
 ghost use Rattle.ports.specs.Assigning.{assignedOf};
 ghost use Rattle.eeprom.specs.Range.{newSaid, byteSaid, writeSaid, writeImage};
-ghost use Rattle.held.specs.Range.{alone, stands, rangeOn, after, skipOf, byteOf, readOf, readInto, exactOf, exactInto, writeOf, written};
+ghost use Rattle.held.specs.Range.{alone, stands, rangeOn, rangeMutOn, after, skipOf, byteOf, readOf, readInto, exactOf, exactInto, writeOf, written};
 ghost use Rattle.held.specs.Answers.{saidOutcome, saidByteRead, saidCounted};
 
 mod step;
@@ -69,6 +69,12 @@ pub struct CountStep {
 pub struct Opened<'a> {
     pub answer: Outcome,
     pub range: EepromRange<'a>,
+}
+
+// The same of an image that is lent to be written.
+pub struct OpenedMut<'a> {
+    pub answer: Outcome,
+    pub range: EepromRangeMut<'a>,
 }
 
 impl<'a> EepromRange<'a> {
@@ -126,6 +132,22 @@ impl<'a> EepromRange<'a> {
 }
 
 impl<'a> EepromRangeMut<'a> {
+    // The range of the image from a word on, for a number of words. Refuses 1.
+    pub fn new(image: &'a mut [u8], start_word: u16, len_words: u16) -> OpenedMut<'a>
+        ensures { λ r. ⌜ (saidOutcome (r .answer) ≡ alone (newSaid «start_word» «len_words»)) × (r .range ≡ rangeMutOn (image .entry) (newSaid «start_word» «len_words»)) ⌝ }
+    {
+        let s = range_step(start_word, len_words);
+        let a = s.answer;
+        OpenedMut {
+            answer: a,
+            range: EepromRangeMut {
+                image: image,
+                byte_pos: s.byte_pos,
+                end: s.end,
+            },
+        }
+    }
+
     // Writes the bytes as words, while the position is before the end. Refuses 14, then 7, which keeps the words already written.
     pub fn write(&mut self, bytes: &[u8]) -> Counted
         ensures { λ d. ⌜ (saidCounted d ≡ alone (writeOf (now (self .entry)) (now (bytes .entry)))) × (now (self .exit) ≡ written (now (self .entry)) (now (bytes .entry))) ⌝ }

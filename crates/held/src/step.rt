@@ -50,6 +50,7 @@ pub(crate) fn range_step(start_word: u16, len_words: u16) -> RangeStep
     }
 }
 
+// The outcome of a skip, and the position after it.
 pub(crate) fn skip_step(byte_pos: Pos, end: Pos, skip: u16) -> OutcomeStep
     ensures { λ r. ⌜ (saidOutcome (r .answer) ≡ alone (skipSaid «byte_pos» end skip)) × (r .«byte_pos» ≡ stands «byte_pos» (skipSaid «byte_pos» end skip)) ⌝ }
 {
@@ -66,6 +67,7 @@ pub(crate) fn skip_step(byte_pos: Pos, end: Pos, skip: u16) -> OutcomeStep
     }
 }
 
+// The byte at a position, and the position after it.
 pub(crate) fn byte_step(image: &[u8], byte_pos: Pos, end: Pos, chunk: Chunk) -> ByteStep
     ensures { λ r. ⌜ (saidByteRead (r .answer) ≡ alone (byteSaid (now (image .entry)) «byte_pos» end)) × (r .«byte_pos» ≡ stands «byte_pos» (byteSaid (now (image .entry)) «byte_pos» end)) ⌝ }
 {
@@ -82,6 +84,7 @@ pub(crate) fn byte_step(image: &[u8], byte_pos: Pos, end: Pos, chunk: Chunk) -> 
     }
 }
 
+// How many bytes a read takes, and the position after them.
 pub(crate) fn read_step(
     image: &[u8],
     byte_pos: Pos,
@@ -104,6 +107,7 @@ pub(crate) fn read_step(
     }
 }
 
+// The outcome of an exact read, and the position after it; a short one is refusal 2.
 pub(crate) fn exact_step(
     image: &[u8],
     byte_pos: Pos,
@@ -130,6 +134,7 @@ pub(crate) fn exact_step(
     }
 }
 
+// How many bytes a write takes, and the position after them; one that stopped is refusal 7.
 pub(crate) fn write_step(image: &mut [u8], byte_pos: Pos, end: Pos, bytes: &[u8]) -> CountStep
     ensures { λ r. ⌜ ((saidCounted (r .answer) ≡ alone (writeSaid (now (image .entry)) «byte_pos» end (now (bytes .entry)))) × (r .«byte_pos» ≡ stands «byte_pos» (writeSaid (now (image .entry)) «byte_pos» end (now (bytes .entry))))) × (now (image .exit) ≡ writeImage (now (image .entry)) «byte_pos» end (now (bytes .entry))) ⌝ }
 {
