@@ -9,3 +9,4 @@ pub mod Held
 pub mod Table
 pub mod Widths
 pub mod Contracts
+pub mod Whole
