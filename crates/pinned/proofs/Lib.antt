@@ -1,3 +1,5 @@
 pub mod Laws
 pub mod Table
 pub mod Widths
+pub mod Contracts
+pub mod Whole

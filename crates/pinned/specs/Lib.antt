@@ -8,3 +8,5 @@ pub mod Lines
 pub mod Held
 pub mod Table
 pub mod Widths
+pub mod Contracts
+pub mod Whole
