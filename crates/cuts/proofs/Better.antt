@@ -7,7 +7,8 @@ use native.Mathlib.Nat.{add-zero, zero-add}
 use mathlib.Core.List.{List, [], _∷_}
 use lib.ListN.{length}
 use borrow.Author.Tests.{eq-eqb, ne-eqb}
-use Rattle.cuts.specs.Cut.{overhead, Piece, Chain, Rising, load, Permitted, freeOf, lastArea}
+use Rattle.pdu.specs.Pdu.{pduOverhead}
+use Rattle.cuts.specs.Cut.{Piece, Chain, Rising, load, Permitted, freeOf, lastArea}
 use Rattle.cuts.specs.Greedy.{piece, room, greedyFrom, greedy}
 use Rattle.cuts.specs.Measure.{sizeIn, sizeAfter, cap}
 use Rattle.cuts.proofs.Laws.{load-own, load-rest, in-load, last-load, after-step, after-none, all-after, rising-last, cutting-cap, free-alike}
@@ -15,7 +16,7 @@ use Rattle.cuts.proofs.Greedy.{greedy-nothing, greedy-before}
 
 -- ---- the load of a piece in front, unless it is empty
 
-piece-at : (a o t : ℕ) (ps : List Piece) → load a ps ≡ 0 → load a (piece a o t ps) ≤ t + overhead
+piece-at : (a o t : ℕ) (ps : List Piece) → load a ps ≡ 0 → load a (piece a o t ps) ≤ t + pduOverhead
 unfolding load
 piece-at a o zero ps e = omega arith
 piece-at a o (suc t) ps e = rw (eq-eqb a a refl) (omega arith)
@@ -42,20 +43,20 @@ module _ (free : ℕ → ℕ) where
       omega (arith, after-step i ps, in-load (suc i) ps, f (suc i))
 
   -- the greedy plan's load in an area is at most 12 over what the areas before it have no room for
-  greedy-most : (d j i o left : ℕ) → load (suc (i + j)) (greedyFrom free d i o left) ≤ left - cap free i j + overhead
+  greedy-most : (d j i o left : ℕ) → load (suc (i + j)) (greedyFrom free d i o left) ≤ left - cap free i j + pduOverhead
   unfolding greedyFrom cap load
   greedy-most zero j i o left = omega arith
   greedy-most (suc d) zero i o left =
       let t = min left (room free (suc i)) in
       let ps = greedyFrom free d (suc i) (o + t) (left - t) in
       let z : load (suc i) ps ≡ 0 = greedy-before free d (suc i) (o + t) (left - t) (suc i) (omega arith) in
-      let h : load (suc i) (piece (suc i) o t ps) ≤ t + overhead = piece-at (suc i) o t ps z in
+      let h : load (suc i) (piece (suc i) o t ps) ≤ t + pduOverhead = piece-at (suc i) o t ps z in
       rw (add-zero i) (omega arith)
   greedy-most (suc d) (suc j) i o left =
       let t = min left (room free (suc i)) in
       let ps = greedyFrom free d (suc i) (o + t) (left - t) in
       let e : suc (i + suc j) ≡ suc (suc i + j) = omega arith in
-      let h : load (suc (suc i + j)) ps ≤ left - t - cap free (suc i) j + overhead = greedy-most d j (suc i) (o + t) (left - t) in
+      let h : load (suc (suc i + j)) ps ≤ left - t - cap free (suc i) j + pduOverhead = greedy-most d j (suc i) (o + t) (left - t) in
       rw (e, piece-off (suc (suc i + j)) (suc i) o t ps (omega arith)) (omega arith)
 
   least-load : (m n j : ℕ) (ps : List Piece) → 1 ≤ n → Permitted free m n ps → lastArea 0 ps ≡ suc j → load (suc j) (greedy free m n) ≤ load (suc j) ps
@@ -67,8 +68,8 @@ module _ (free : ℕ → ℕ) where
       let y : sizeAfter 0 (p ∷ ps) ≤ cap free 0 j + sizeAfter j (p ∷ ps) = rw (zero-add j) at (after-least j 0 (p ∷ ps) (c .fits)) in
       let z : sizeAfter j (p ∷ ps) ≡ sizeIn (suc j) (p ∷ ps) + sizeAfter (suc j) (p ∷ ps) = after-step j (p ∷ ps) in
       let w : sizeAfter (suc j) (p ∷ ps) ≡ 0 = after-none (suc j) 1 (lastArea 0 (p ∷ ps)) (p ∷ ps) r (omega arith) in
-      let v : sizeIn (suc j) (p ∷ ps) + overhead ≤ load (suc j) (p ∷ ps) = last-load p ps (suc j) e in
-      let u : load (suc j) (greedy free m n) ≤ n - cap free 0 j + overhead = rw (zero-add j) at (greedy-most m j 0 0 n) in
+      let v : sizeIn (suc j) (p ∷ ps) + pduOverhead ≤ load (suc j) (p ∷ ps) = last-load p ps (suc j) e in
+      let u : load (suc j) (greedy free m n) ≤ n - cap free 0 j + pduOverhead = rw (zero-add j) at (greedy-most m j 0 0 n) in
       omega arith
 
   no-cap : (j : ℕ) → j ≡ 0 → cap free 0 j ≡ 0

@@ -8,7 +8,8 @@ use mathlib.Core.Bool.{Bool, true, false}
 use lib.Dec.{eqb}
 use borrow.Author.Tests.{eqb-true}
 use Rattle.refusal.specs.Said.{pick}
-use Rattle.cuts.specs.Cut.{overhead, Piece, Chain, Rising, load, Permitted, lastArea, Earliest}
+use Rattle.pdu.specs.Pdu.{pduOverhead}
+use Rattle.cuts.specs.Cut.{Piece, Chain, Rising, load, Permitted, lastArea, Earliest}
 use Rattle.cuts.specs.Greedy.{piece, room, greedyFrom, overFrom, greedy, over}
 use Rattle.cuts.specs.Measure.{cap}
 use Rattle.cuts.proofs.Laws.{last-most, rising-none, cutting-cap}
@@ -37,7 +38,7 @@ module _ (free : ℕ → ℕ) where
   piece-load k a o zero ps h z f = h
   piece-load k a o (suc t) ps h z f = go (eqb a k) refl
     where
-      go : (b : Bool) → eqb a k ≡ b → pick b (suc t + overhead) 0 + load k ps ≤ free k
+      go : (b : Bool) → eqb a k ≡ b → pick b (suc t + pduOverhead) 0 + load k ps ≤ free k
       go true e =
           let q : a ≡ k = eqb-true a k e in
           omega (arith, z (sym q), ap free q)

@@ -9,7 +9,8 @@ use lib.ListN.{length}
 use lib.Dec.{eqb, ltb}
 use borrow.Author.Tests.{eqb-true, eqb-false, ltb-true, ltb-false, eq-eqb, ne-eqb, le-ltb, lt-ltb}
 use Rattle.refusal.specs.Said.{pick}
-use Rattle.cuts.specs.Cut.{overhead, Piece, Chain, Rising, load, Permitted, freeOf, lastArea}
+use Rattle.pdu.specs.Pdu.{pduOverhead}
+use Rattle.cuts.specs.Cut.{Piece, Chain, Rising, load, Permitted, freeOf, lastArea}
 use Rattle.cuts.specs.Measure.{sizeIn, sizeAfter, cap}
 
 -- ---- Chain
@@ -34,7 +35,8 @@ chain-snoc (q ∷ ps) p o n c e h = (c .0, c .1, chain-snoc ps p (o + q .size) n
 
 -- ---- Rising and lastArea
 
-last-least : (lo m : ℕ) (ps : List Piece) → Rising lo m ps → lo ≤ lastArea lo ps
+-- the last is no earlier than where they start
+pub last-least : (lo m : ℕ) (ps : List Piece) → Rising lo m ps → lo ≤ lastArea lo ps
 unfolding lastArea Rising
 last-least lo m [] r = omega arith
 last-least lo m (p ∷ ps) r = omega (arith, r .0, last-least (p .area) m ps (r .2))
@@ -79,7 +81,7 @@ last-snoc (q ∷ ps) p l = last-snoc ps p (q .area)
 -- ---- load and sizeIn
 
 -- a piece in front needs its bytes and 12
-pub load-own : (p : Piece) (ps : List Piece) → load (p .area) (p ∷ ps) ≡ p .size + overhead + load (p .area) ps
+pub load-own : (p : Piece) (ps : List Piece) → load (p .area) (p ∷ ps) ≡ p .size + pduOverhead + load (p .area) ps
 unfolding load
 load-own p ps = rw (eq-eqb (p .area) (p .area) refl) refl
 
@@ -88,28 +90,28 @@ pub load-rest : (k : ℕ) (p : Piece) (ps : List Piece) → load k ps ≤ load k
 unfolding load
 load-rest k p ps = omega arith
 
-pub load-snoc : (ps : List Piece) (p : Piece) (k : ℕ) → load k (ps ++ (p ∷ [])) ≡ load k ps + pick (eqb (p .area) k) (p .size + overhead) 0
+pub load-snoc : (ps : List Piece) (p : Piece) (k : ℕ) → load k (ps ++ (p ∷ [])) ≡ load k ps + pick (eqb (p .area) k) (p .size + pduOverhead) 0
 unfolding load
 load-snoc [] p k = omega arith
 load-snoc (q ∷ ps) p k = omega (arith, load-snoc ps p k)
 
-in-load-one : (b : Bool) (z S L : ℕ) → S ≤ L - overhead → pick b z 0 + S ≤ pick b (z + overhead) 0 + L - overhead
+in-load-one : (b : Bool) (z S L : ℕ) → S ≤ L - pduOverhead → pick b z 0 + S ≤ pick b (z + pduOverhead) 0 + L - pduOverhead
 in-load-one true z S L h = omega arith
 in-load-one false z S L h = omega arith
 
 -- an area carries at least 12 bytes less than its pieces need
-pub in-load : (k : ℕ) (ps : List Piece) → sizeIn k ps ≤ load k ps - overhead
+pub in-load : (k : ℕ) (ps : List Piece) → sizeIn k ps ≤ load k ps - pduOverhead
 unfolding sizeIn load
 in-load k [] = omega arith
 in-load k (p ∷ ps) = in-load-one (eqb (p .area) k) (p .size) (sizeIn k ps) (load k ps) (in-load k ps)
 
 -- .. and where the last piece lies in it, so much and 12 is at most its load
-pub last-load : (p : Piece) (ps : List Piece) (k : ℕ) → lastArea (p .area) ps ≡ k → sizeIn k (p ∷ ps) + overhead ≤ load k (p ∷ ps)
+pub last-load : (p : Piece) (ps : List Piece) (k : ℕ) → lastArea (p .area) ps ≡ k → sizeIn k (p ∷ ps) + pduOverhead ≤ load k (p ∷ ps)
 unfolding lastArea load sizeIn
 last-load p [] k e = rw (eq-eqb (p .area) k e) (omega arith)
 last-load p (q ∷ ps) k e = one (eqb (p .area) k) (p .size) (sizeIn k (q ∷ ps)) (load k (q ∷ ps)) (last-load q ps k e)
   where
-    one : (b : Bool) (z S L : ℕ) → S + overhead ≤ L → pick b z 0 + S + overhead ≤ pick b (z + overhead) 0 + L
+    one : (b : Bool) (z S L : ℕ) → S + pduOverhead ≤ L → pick b z 0 + S + pduOverhead ≤ pick b (z + pduOverhead) 0 + L
     one true z S L h = omega arith
     one false z S L h = omega arith
 
@@ -177,12 +179,12 @@ free-alike s k = go (eqb k 1)
     go true = refl
     go false = refl
 
-later-cap : (f s d i : ℕ) → 1 ≤ i → cap (freeOf f s) i d ≡ d * (s - overhead)
+later-cap : (f s d i : ℕ) → 1 ≤ i → cap (freeOf f s) i d ≡ d * (s - pduOverhead)
 unfolding cap
 later-cap f s zero i h = omega arith
-later-cap f s (suc d) i h = rw (free-later f s (suc i) (omega arith), later-cap f s d (suc i) (omega arith), suc-mul d (s - overhead)) (omega arith)
+later-cap f s (suc d) i h = rw (free-later f s (suc i) (omega arith), later-cap f s d (suc i) (omega arith), suc-mul d (s - pduOverhead)) (omega arith)
 
 -- a row of d + 1 areas has room for the first's free bytes less 12, and d times the size less 12
-pub row-cap : (f s d : ℕ) → cap (freeOf f s) 0 (suc d) ≡ (f - overhead) + d * (s - overhead)
+pub row-cap : (f s d : ℕ) → cap (freeOf f s) 0 (suc d) ≡ (f - pduOverhead) + d * (s - pduOverhead)
 unfolding cap
 row-cap f s d = rw (later-cap f s d 1 (omega arith)) refl

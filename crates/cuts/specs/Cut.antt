@@ -4,10 +4,7 @@ use Prim.Native.Nat.{ℕ, _+_, _≤_}
 use mathlib.Core.List.{List, [], _∷_}
 use lib.Dec.{eqb}
 use Rattle.refusal.specs.Said.{pick}
-
--- the bytes that a PDU has over its payload
-abbrev pub overhead : ℕ
-overhead = 12
+use Rattle.pdu.specs.Pdu.{pduOverhead}
 
 -- a piece of the image: `size` bytes from `offset` on, put into area number `area`
 pub record Piece : Type 0 where
@@ -28,7 +25,7 @@ Rising lo m (p ∷ ps) = (lo ≤ p .area) × (p .area ≤ m) × Rising (p .area)
 -- the bytes that the pieces of area k need: 12 added to each
 unfoldable pub load : ℕ → List Piece → ℕ
 load k [] = 0
-load k (p ∷ ps) = pick (eqb (p .area) k) (p .size + overhead) 0 + load k ps
+load k (p ∷ ps) = pick (eqb (p .area) k) (p .size + pduOverhead) 0 + load k ps
 
 -- a permitted cutting of n bytes over the areas 1 to m, where area k has `free k` bytes free at the start
 pub record Permitted (free : ℕ → ℕ) (m n : ℕ) (ps : List Piece) : Type 0 where

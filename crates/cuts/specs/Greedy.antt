@@ -1,7 +1,8 @@
 -- The greedy plan: areas in order, each taking as much as it has room for (document 01, 'Frames': one push as by `push_pdu_slice_rest`). Definitions only.
 use Prim.Native.Nat.{ℕ, zero, suc, _+_, _-_, min}
 use mathlib.Core.List.{List, [], _∷_}
-use Rattle.cuts.specs.Cut.{Piece, overhead}
+use Rattle.pdu.specs.Pdu.{pduOverhead}
+use Rattle.cuts.specs.Cut.{Piece}
 
 -- a piece in front, unless it is empty
 abbrev pub piece : ℕ → ℕ → ℕ → List Piece → List Piece
@@ -11,7 +12,7 @@ piece a o (suc t) ps = record { area = a; offset = o; size = suc t } ∷ ps
 module _ (free : ℕ → ℕ) where
   -- the payload that area k has room for: its free bytes less 12, never below 0
   abbrev pub room : ℕ → ℕ
-  room k = free k - overhead
+  room k = free k - pduOverhead
 
   -- the pieces that the d areas after area i take of the `left` bytes from offset o on
   unfoldable pub greedyFrom : ℕ → ℕ → ℕ → ℕ → List Piece

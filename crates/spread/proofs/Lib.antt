@@ -1,0 +1,12 @@
+pub mod Push
+pub mod Parts
+pub mod Going
+pub mod Laws
+pub mod Lists
+pub mod Laid
+pub mod Plan
+pub mod Greedy
+pub mod Unique
+pub mod Theorem
+pub mod Kept
+pub mod Bench

@@ -1,0 +1,5 @@
+pub mod Row
+pub mod Answers
+pub mod Laid
+pub mod ReadBack
+pub mod Theorem
