@@ -11,7 +11,7 @@ use borrow.Author.Tests.{lt-ltb, ne-eqb, ltb-true, eqb-false}
 use Rattle.refusal.specs.Said.{Said, gives, absent, refuses, on2, pick}
 use Rattle.wire.specs.Bytes.{span}
 use Rattle.wire.proofs.Laws.{length-span}
-use Rattle.strings.specs.Strings.{soughtAt, ascii, shown, textSaid, fits, textFor, stringSaid}
+use Rattle.strings.specs.Strings.{soughtAt, ascii, shown, textSaid, fits, bounded, textFor, stringSaid}
 use Rattle.strings.specs.Plain.{Plain}
 use Rattle.strings.specs.Answers.{Small}
 use Rattle.strings.proofs.Laws.{length-shown, small-sought}
@@ -40,7 +40,7 @@ plain-shown (b ∷ l) h =
 -- ---- what is given
 
 pub text-given : (image : List ℕ) (k : ℕ) (place : Said) (text : List ℕ) → Small k place → textFor image k place ≡ gives text → Plain text × (length text ≤ k)
-unfolding textFor textSaid on2
+unfolding textFor bounded textSaid on2
 text-given image k place text s e = go (fits image k) place s e
   where
     stored : (p n : ℕ) → n ≤ k → gives (shown (span image p n)) ≡ gives text → Plain text × (length text ≤ k)

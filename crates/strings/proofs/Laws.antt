@@ -18,7 +18,7 @@ use Rattle.eeprom.specs.Image.{within}
 use Rattle.eeprom.specs.Range.{byteSaid}
 use Rattle.category.specs.Numbers.{strings}
 use Rattle.category.specs.Category.{categorySaid}
-use Rattle.strings.specs.Strings.{stringPast, passedOne, passed, fitted, stringHere, stringBehind, stringIn, soughtAt, ascii, shown, textSaid, roomMost, fits, textFor, lengthSaid, roomAfter}
+use Rattle.strings.specs.Strings.{stringPast, passedOne, passed, fitted, stringHere, stringBehind, stringIn, soughtAt, ascii, shown, textSaid, roomMost, fits, bounded, textFor, lengthSaid, roomAfter}
 use Rattle.strings.specs.Answers.{Small}
 
 -- ---- the rule of the last index
@@ -178,11 +178,11 @@ module _ (image : List ℕ) (k : ℕ) (t : Bool) (e : t ≡ fits image k) where
   pub text-for : (place sought r : Said) (room room′ : List ℕ) → t ≡ true → place ≡ sought →
       r ≡ lengthSaid (textSaid image place) → room′ ≡ roomAfter (textSaid image place) room →
       (r ≡ lengthSaid (textFor image k sought)) × (room′ ≡ roomAfter (textFor image k sought) room)
-  unfolding textFor
+  unfolding textFor bounded
   text-for place sought r room room′ p q a b = rw (← e, p, ← q) (a, b)
 
   -- outside them, the room stays
   pub text-not : (place : Said) (room : List ℕ) → t ≡ false →
       (refuses 14 [] ≡ lengthSaid (textFor image k place)) × (room ≡ roomAfter (textFor image k place) room)
-  unfolding textFor lengthSaid roomAfter
+  unfolding textFor bounded lengthSaid roomAfter
   text-not place room p = rw (← e, p) (refl, refl)

@@ -1,4 +1,5 @@
 pub mod Laws
 pub mod Given
+pub mod Names
 pub mod Unique
 pub mod Bench

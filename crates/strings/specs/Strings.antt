@@ -75,9 +75,13 @@ roomMost = 255
 unfoldable pub fits : List ℕ → ℕ → Bool
 fits image k = within image && leb k roomMost
 
+-- out of them it is 14, before all else
+unfoldable pub bounded : List ℕ → ℕ → Said → Said
+bounded image k said = pick (fits image k) said (refuses 14 [])
+
 -- the text at a place, for an image and a room within their bounds
 unfoldable pub textFor : List ℕ → ℕ → Said → Said
-textFor image k place = pick (fits image k) (textSaid image place) (refuses 14 [])
+textFor image k place = bounded image k (textSaid image place)
 
 -- the string of an index, for a room of k bytes: its text, absent, or a refusal
 unfoldable pub stringSaid : List ℕ → ℕ → ℕ → Said

@@ -1,5 +1,5 @@
-// Strings of the SII into a lent room: `find_string` of ethercrab's subdevice/eeprom.rs.
-// Document 01, 'What is read out', decides; specs/Strings.antt has its rules in its order.
+// Strings of the SII into a lent room: `find_string`, `device_name` and `device_description` of ethercrab's subdevice/eeprom.rs.
+// Document 01, 'What is read out', decides; specs/Strings.antt and specs/Names.antt have its rules in its order.
 // A string is found by reading alone, and the room is written once it is known to be readable: a refusal has touched nothing.
 use category::Found;
 use category::STRINGS;
@@ -12,6 +12,10 @@ use eeprom::RangeAnswer;
 use eeprom::byte_of;
 use eeprom::image_within;
 use refusal::Refusal;
+use sii::GeneralAnswer;
+use sii::GeneralFound;
+use sii::find_general;
+use sii::general;
 ghost use mathlib.Core.Path.{_≡_};
 ghost use mathlib.Core.List.{[], _∷_};
 ghost use Prim.Native.Nat.{_+_, _-_, _≤_, _<_};
@@ -19,6 +23,7 @@ ghost use lib.ListN.{length};
 ghost use Rattle.wire.specs.Bytes.{span, overlay};
 ghost use Rattle.eeprom.specs.Answers.{saidRange};
 ghost use Rattle.strings.specs.Strings.{stringPast, passedOne, passed, fitted, stringHere, stringBehind, stringIn, soughtAt, ascii, shown, textSaid, fits, stringSaid, lengthSaid, roomAfter};
+ghost use Rattle.strings.specs.Names.{nameSaid, descriptionSaid};
 ghost use Rattle.strings.specs.Answers.{saidPlace, saidString, Small};
 
 // The most bytes that a room has.
@@ -31,6 +36,7 @@ pub enum StringAnswer {
     // There is no such string. The room is as it was, here and below.
     Absent,
     // 14: the image or the room is too long. 1 and 2: reading fails. 4: the stored string is longer than the room.
+    // 3 and 5: General is not found, or has undefined bits.
     No(Refusal),
 }
 
@@ -50,6 +56,37 @@ pub fn find_string(image: &[u8], chunk: Chunk, index: u8, room: &mut [u8]) -> St
         let k = room.len();
         let place = sought(image, chunk, index, k as u16);
         text(image, chunk, place, room)
+    } else {
+        StringAnswer::No(Refusal::BadArgument)
+    }
+}
+
+// Puts the device's name into the room, and answers its length: the string of General's order index. Absent without General.
+pub fn device_name(image: &[u8], chunk: Chunk, room: &mut [u8]) -> StringAnswer
+    ensures said { λ r. ⌜ saidString r ≡ lengthSaid (nameSaid (now (image .entry)) (length (now (room .entry)))) ⌝ }
+    ensures lent { λ _. ⌜ now (room .exit) ≡ roomAfter (nameSaid (now (image .entry)) (length (now (room .entry)))) (now (room .entry)) ⌝ }
+{
+    if sound(image, room) {
+        match find_general(image, chunk) {
+            GeneralFound::Is(g) => find_string(image, chunk, g.order_string_idx, room),
+            GeneralFound::Absent => StringAnswer::Absent,
+            GeneralFound::No(x) => StringAnswer::No(x),
+        }
+    } else {
+        StringAnswer::No(Refusal::BadArgument)
+    }
+}
+
+// Puts the device's description into the room, and answers its length: the string of General's name index. 3 without General.
+pub fn device_description(image: &[u8], chunk: Chunk, room: &mut [u8]) -> StringAnswer
+    ensures said { λ r. ⌜ saidString r ≡ lengthSaid (descriptionSaid (now (image .entry)) (length (now (room .entry)))) ⌝ }
+    ensures lent { λ _. ⌜ now (room .exit) ≡ roomAfter (descriptionSaid (now (image .entry)) (length (now (room .entry)))) (now (room .entry)) ⌝ }
+{
+    if sound(image, room) {
+        match general(image, chunk) {
+            GeneralAnswer::Is(g) => find_string(image, chunk, g.name_string_idx, room),
+            GeneralAnswer::No(x) => StringAnswer::No(x),
+        }
     } else {
         StringAnswer::No(Refusal::BadArgument)
     }
