@@ -1,7 +1,12 @@
 // The desk: requests in, answers out, a line each, in the form of docs/DESK.md. Every line gets an answer, whatever its bytes are.
 mod input;
 mod numbers;
+mod on_frames;
+mod on_ports;
 mod on_range;
+mod on_sii;
+mod on_spread;
+mod on_strings;
 mod reply;
 mod requests;
 mod words;

@@ -1,4 +1,4 @@
-// Total access to slices, so that no caller has to show that a place is there.
+// Numbers of a request and of an answer. Every call is total, so that no caller has to show that a place is there.
 use eeprom::Chunk;
 
 // The number at i; 0 past the end.
@@ -24,6 +24,19 @@ pub(crate) fn chunk(nums: &[u64], i: usize) -> Chunk {
     } else {
         Chunk::Four
     }
+}
+
+// A field as a number of a row.
+pub(crate) fn bit(b: bool) -> u64 {
+    if b { 1 } else { 0 }
+}
+
+pub(crate) fn wide8(x: u8) -> u64 {
+    x as u64
+}
+
+pub(crate) fn wide16(x: u16) -> u64 {
+    x as u64
 }
 
 // Stores x at k and answers the next place; a full row stays as it is.

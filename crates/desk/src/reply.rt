@@ -95,10 +95,6 @@ pub(crate) fn with_slice(r: Reply, slice: u8, bytes: usize) -> Reply {
     }
 }
 
-pub(crate) fn bit(b: bool) -> u64 {
-    if b { 1 } else { 0 }
-}
-
 fn verb(out: &mut [u8], k: usize, v: u8) -> usize {
     match v {
         GIVES => say(out, k, b"gives"),

@@ -1,7 +1,12 @@
 // A line's answer: its request by name, its words by the request's shape, then the deed, then the text.
 use crate::numbers::front;
 use crate::numbers::front_mut;
+use crate::on_frames;
+use crate::on_ports;
 use crate::on_range;
+use crate::on_sii;
+use crate::on_spread;
+use crate::on_strings;
 use crate::reply;
 use crate::reply::Reply;
 use crate::words;
@@ -33,7 +38,38 @@ fn asked(name: u64) -> Request {
             shape: range,
         };
     }
-    Request { topic: 0, shape: 0 }
+    let sii = on_sii::shape(name);
+    if sii != 0 {
+        return Request {
+            topic: SII,
+            shape: sii,
+        };
+    }
+    let strings = on_strings::shape(name);
+    if strings != 0 {
+        return Request {
+            topic: STRINGS,
+            shape: strings,
+        };
+    }
+    let ports = on_ports::shape(name);
+    if ports != 0 {
+        return Request {
+            topic: PORTS,
+            shape: ports,
+        };
+    }
+    let frames = on_frames::shape(name);
+    if frames != 0 {
+        return Request {
+            topic: FRAMES,
+            shape: frames,
+        };
+    }
+    Request {
+        topic: SPREADING,
+        shape: on_spread::shape(name),
+    }
 }
 
 // What a request says. The lent slices are its BYTES in their order.
@@ -47,7 +83,11 @@ fn act(
 ) -> Reply {
     match topic {
         RANGE => on_range::answer(name, nums, first, second, row),
-        _ => reply::unreadable(row),
+        SII => on_sii::answer(name, nums, first, row),
+        STRINGS => on_strings::answer(name, nums, first, second, row),
+        PORTS => on_ports::answer(name, nums, first, row),
+        FRAMES => on_frames::answer(name, nums, first, second, row),
+        _ => on_spread::answer(nums, first, second, row),
     }
 }
 
