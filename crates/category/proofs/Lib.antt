@@ -1,4 +1,3 @@
-pub mod On
 pub mod Laws
 pub mod First
 pub mod Unique

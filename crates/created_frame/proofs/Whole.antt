@@ -12,39 +12,11 @@ use lib.Seq.{getD-append-add, getD-take, getD-drop, getD-set-same, getD-set-othe
 use Rattle.refusal.specs.Said.{pick}
 use Rattle.wire.specs.Bytes.{byteAt, overlay}
 use Rattle.wire.proofs.Laws.{length-overlay}
+use Rattle.wire.proofs.Overlay.{overlay-before, overlay-inside, overlay-past}
 use Rattle.pdu.specs.Pdu.{headerOf}
 use Rattle.created_frame.specs.declared.Builder.{Builder}
 use Rattle.created_frame.specs.Frame.{more, marked, acceptable, room, withPdu, Roomy, afterPush, taken, afterRest}
 use Rattle.created_frame.proofs.Laws.{accepted, has-room, length-marked}
-
--- ---- a list laid over another: before it, in it, behind it
-
-module _ (xs : List ℕ) (at : ℕ) (ys : List ℕ) (h : at + length ys ≤ length xs) where
-  front : length (take at xs ++ ys) ≡ at + length ys
-  front = simp (length-append, length-take) (omega arith)
-
-  pub overlay-before : (i : ℕ) → i < at → byteAt (overlay xs at ys) i ≡ byteAt xs i
-  unfolding overlay byteAt
-  overlay-before i lt =
-      let k : length (take at xs) ≡ at = rw length-take (omega arith) in
-      List·getD-append (take at xs ++ ys) (drop (at + length ys) xs) 255 i (omega (arith, front))
-      ∙ List·getD-append (take at xs) ys 255 i (omega arith) ∙ getD-take at xs i 255 lt
-
-  pub overlay-inside : (k : ℕ) → k < length ys → byteAt (overlay xs at ys) (at + k) ≡ byteAt ys k
-  unfolding overlay byteAt
-  overlay-inside k lt =
-      let n : length (take at xs) ≡ at = rw length-take (omega arith) in
-      let e : at + k ≡ length (take at xs) + k = omega arith in
-      List·getD-append (take at xs ++ ys) (drop (at + length ys) xs) 255 (at + k) (omega (arith, front))
-      ∙ rw e (getD-append-add (take at xs) ys k 255)
-
-  pub overlay-past : (i : ℕ) → at + length ys ≤ i → byteAt (overlay xs at ys) i ≡ byteAt xs i
-  unfolding overlay byteAt
-  overlay-past i le =
-      let k = i - (at + length ys) in
-      let e : i ≡ length (take at xs ++ ys) + k = omega (arith, front) in
-      let f : at + length ys + k ≡ i = omega arith in
-      ap (byteAt (overlay xs at ys)) e ∙ getD-append-add (take at xs ++ ys) (drop (at + length ys) xs) k 255 ∙ getD-drop (at + length ys) xs k 255 ∙ ap (byteAt xs) f
 
 -- ---- more-follows
 

@@ -6,12 +6,12 @@ use mathlib.Core.List.{List, [], map}
 use Rattle.refusal.specs.Said.{Said, gives, refuses}
 use Rattle.wire.specs.Bytes.{Bytes}
 use Rattle.pdu.specs.Pdu.{Pdu}
-use Rattle.pdu.specs.Read.{Reading, read, refused, readOf, payloadOf, shownAll}
+use Rattle.pdu.specs.Read.{Reading, read, refused, readOf, payloadOf, shownAll, pdusOf}
 use Rattle.pdu.specs.Grammar.{WellFormed}
 use Rattle.pdu.proofs.Reading.{well-read, well-payloads}
 use Rattle.pdu.proofs.Grammar.{accepted-well, broken-refused, refused-broken}
 use Rattle.pdu.proofs.Bench.{benchFrame, benchPdus, bench-read}
-use Rattle.frame_reader.specs.Answers.{readSaid, pdusOf}
+use Rattle.frame_reader.specs.Answers.{readSaid}
 
 -- what the reader says of s, and the PDUs that it lists
 abbrev pub says : List ℕ → Said
@@ -21,7 +21,7 @@ abbrev pub Lists : List ℕ → List Pdu → Type 0
 Lists s ps = (pdusOf (readOf s) ≡ shownAll 2 ps) × (map (payloadOf s) (pdusOf (readOf s)) ≡ map (λ (p : Pdu). p .payload) ps)
 
 said-read : (v : Reading) → readSaid v ≡ gives [] → v ≡ read (pdusOf v)
-unfolding readSaid pdusOf
+unfolding readSaid
 said-read refused e = let z : _≡_ {A = ℕ} 0 1 = cc in absurd (omega arith)
 said-read (read vs) e = refl
 
@@ -38,7 +38,7 @@ accepted s bytes e =
 
 -- no well-formed frame is refused, and its PDUs are listed
 pub well-accepted : (s : List ℕ) (ps : List Pdu) → WellFormed s ps → (says s ≡ gives []) × Lists s ps
-unfolding readSaid pdusOf
+unfolding readSaid
 well-accepted s ps w =
     let r = well-read s ps w in
     (ap readSaid r, (ap pdusOf r, ap (λ (v : Reading). map (payloadOf s) (pdusOf v)) r ∙ well-payloads s ps w))
@@ -53,5 +53,5 @@ none-refused s bytes none = ap readSaid (broken-refused s bytes none)
 
 -- document 01's frame from the bench
 pub bench-accepted : (says benchFrame ≡ gives []) × (pdusOf (readOf benchFrame) ≡ shownAll 2 benchPdus)
-unfolding readSaid pdusOf
+unfolding readSaid
 bench-accepted = (ap readSaid bench-read, ap pdusOf bench-read)

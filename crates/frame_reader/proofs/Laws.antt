@@ -8,13 +8,13 @@ use mathlib.Core.List.{List, [], _∷_, _++_, append-assoc, map, map-append}
 use lib.ListN.{length, set, take, drop, getD, replicate, take-append-drop, length-take, length-map}
 use lib.Seq.{take-suc, set-at, take-at}
 use Rattle.pdu.specs.declared.PduFields.{PduFields}
-use Rattle.pdu.specs.Read.{Places, bad, good, before, seenAt, frameOf, Reading, seenAll, readOf}
+use Rattle.pdu.specs.Read.{Places, bad, good, before, seenAt, frameOf, Reading, seenAll, readOf, pdusOf}
 use Rattle.pdu.proofs.Laws.{Few}
 use Rattle.frame_reader.specs.declared.FrameRead.{FrameRead}
 use Rattle.frame_reader.specs.declared.FrameAnswer.the-variants.{Frame}
 use Rattle.frame_reader.specs.declared.Walked.{Walked}
 use Rattle.frame_reader.specs.declared.Walked.the-variants.{Good, Bad}
-use Rattle.frame_reader.specs.Answers.{saidFrame, readSaid, pdusOf, noPdu, unused, padded}
+use Rattle.frame_reader.specs.Answers.{saidFrame, readSaid, noPdu, unused, padded}
 use Rattle.frame_reader.specs.Walk.{walkedOf, placed, stored, listing}
 
 -- ---- the ways out of the cycle: what it says, and the places
@@ -100,7 +100,7 @@ abbrev pub Says : Reading → FrameRead → Type 0
 Says v r = (saidFrame (r .answer) ≡ readSaid v) × (r .count ≡ length (pdusOf v)) × (r .pdus ≡ padded (pdusOf v))
 
 says-places : (s : List ℕ) (R : Places) → Says (seenAll s R) (listing s R)
-unfolding listing readSaid pdusOf
+unfolding listing readSaid
 says-places s bad = (refl, refl, refl)
 says-places s (good l) = (refl, sym (length-map l (seenAt s)), refl)
 

@@ -19,11 +19,6 @@ unfoldable pub readSaid : Reading → Said
 readSaid refused = refuses 12 []
 readSaid (read vs) = gives []
 
--- its PDUs; a refusal comes with an empty list
-unfoldable pub pdusOf : Reading → List PduFields
-pdusOf refused = []
-pdusOf (read vs) = vs
-
 -- what an unused place holds
 abbrev pub noPdu : PduFields
 noPdu =

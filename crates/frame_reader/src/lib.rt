@@ -11,8 +11,8 @@ ghost use Prim.Native.Nat.{ℕ, _+_, _-_, _*_, _≤_, _<_};
 ghost use mathlib.Core.List.{[], map};
 ghost use lib.ListN.{length, take};
 ghost use Rattle.pdu.specs.Pdu.{pdusMost};
-ghost use Rattle.pdu.specs.Read.{bad, bodyAt, placesAt, frameOf, seenAt, readOf};
-ghost use Rattle.frame_reader.specs.Answers.{saidFrame, readSaid, pdusOf, noPdu, padded};
+ghost use Rattle.pdu.specs.Read.{bad, bodyAt, placesAt, frameOf, seenAt, readOf, pdusOf};
+ghost use Rattle.frame_reader.specs.Answers.{saidFrame, readSaid, noPdu, padded};
 ghost use Rattle.frame_reader.specs.Walk.{walkedOf, placed, listing};
 
 // What reading a frame answers.

@@ -86,6 +86,11 @@ seenAll s (good l) = read (map (seenAt s) l)
 unfoldable pub readOf : List ℕ → Reading
 readOf s = seenAll s (frameOf s)
 
+-- what was read; a refusal comes with an empty list
+abbrev pub pdusOf : Reading → List PduFields
+pdusOf refused = []
+pdusOf (read vs) = vs
+
 -- what should be seen of these PDUs, the first of which starts at i; more-follows is m
 abbrev pub shown : ℕ → Pdu → ℕ → PduFields
 shown i p m =

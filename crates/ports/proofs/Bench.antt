@@ -1,15 +1,16 @@
--- Document 01's bench cases on ports, in the definitions: each is computed.
-use Prim.Native.Nat.{ℕ, _≤_}
+-- Document 01's bench cases on ports, and what DECISIONS says of a record that no call made, in the definitions: each is computed.
+use Prim.Native.Nat.{ℕ}
 use native.Mathlib.Nat.{le-refl}
 use mathlib.Core.Path.{_≡_, refl, ap, _∙_}
 use mathlib.Core.Bool.{true, false}
-use mathlib.Core.List.{List, [], _∷_, _++_}
+use mathlib.Core.List.{[], _∷_}
 use lib.Dec.{ltb}
 use borrow.Author.Tests.{le-ltb}
-use Rattle.refusal.specs.Said.{Said, gives, absent}
-use Rattle.wire.specs.Bytes.{overlay}
+use Rattle.refusal.specs.Said.{gives, absent}
+use Rattle.ports.specs.declared.Link.the-variants.{To}
 use Rattle.ports.specs.declared.Ports.{Ports}
-use Rattle.ports.specs.Ports.{those, firstThat, folded, earliest, activePorts, entry, fresh, timesSet, linkSet}
+use Rattle.ports.specs.Answers.{entrySaid}
+use Rattle.ports.specs.Ports.{noPort, those, firstThat, folded, earliest, activePorts, entry, fresh, timesSet, linkSet}
 use Rattle.ports.specs.Delays.{largest, smallest, spread, delaySaid, total, totalSaid, activeBetween, timeTo, timeToSaid, gap, gaps, sumSaid, intermediateSaid}
 use Rattle.ports.specs.Assigning.{repeated, assignable, assignedOf, assignedSaid}
 use Rattle.ports.specs.Display.{wordOf, words, textOf}
@@ -29,6 +30,10 @@ unfoldable pub two : ℕ → Ports
 unfolding fresh timesSet
 two t = timesSet (fresh true true false false) t t 0 0
 
+-- a record that no call made: place 1 is active, calls itself port 7 and leads to device 0
+unfoldable pub stray : Ports
+stray = record { 0 = noPort ∷ record { active = true; «dc_receive_time» = 5; number = 7; «downstream_to» = To 0 } ∷ noPort ∷ noPort ∷ [] }
+
 -- the record after a device is assigned
 abbrev after : Ports → ℕ → Ports
 after p d = assignedOf p d .ports
@@ -43,6 +48,9 @@ pub record Bench (t : ℕ) : Type 0 where
   pub two-first : assignedSaid (two t) 1 ≡ gives (3 ∷ [])
   pub two-second : assignedSaid (after (two t) 1) 2 ≡ gives (0 ∷ [])
   pub two-third : assignedSaid (after (after (two t) 1) 2) 3 ≡ absent
+  -- the place decides, and a link to device 0 is a link
+  pub stray-entry : entrySaid stray ≡ gives (3 ∷ [])
+  pub stray-assigned : assignedSaid stray 1 ≡ absent
 
 module _ (t : ℕ) where
   same : ltb t t ≡ false
@@ -66,7 +74,7 @@ module _ (t : ℕ) where
   third = rw same
 
   pub bench : Bench t
-  unfolding four three two those firstThat folded earliest activePorts entry fresh timesSet linkSet largest smallest spread delaySaid total totalSaid activeBetween timeTo timeToSaid gap gaps sumSaid intermediateSaid repeated assignable assignedSaid wordOf words textOf
+  unfolding four three two those firstThat folded earliest activePorts entry fresh timesSet linkSet largest smallest spread delaySaid total totalSaid activeBetween timeTo timeToSaid gap gaps sumSaid intermediateSaid repeated assignable assignedSaid wordOf words textOf stray entrySaid
   bench =
       record {
         four-total = refl;
@@ -77,4 +85,6 @@ module _ (t : ℕ) where
         two-first = rw same;
         two-second = ap (λ (p : Ports). assignedSaid p 2) after-one ∙ second;
         two-third = ap (λ (p : Ports). assignedSaid p 3) (ap (λ (p : Ports). after p 2) after-one ∙ after-two) ∙ third;
+        stray-entry = refl;
+        stray-assigned = refl;
       }

@@ -1,17 +1,17 @@
 -- Laws of the ports' definitions. Going through a list of those places that pass a test is going through all places, with the test at each.
 use Prim.Native.Nat.{ℕ, zero, suc, _+_, _-_, _≤_, _<_, min, max}
-use native.Mathlib.Nat.{zero-add, add-zero, sub-zero, zero-max}
+use native.Mathlib.Nat.{zero-add, add-zero}
 use native.Mathlib.Omega.{arith}
 use mathlib.Core.Path.{_≡_, refl, sym, ap, _∙_}
-use mathlib.Core.Bool.{Bool, true, false, _&&_}
-use mathlib.Core.List.{List, [], _∷_, _++_, append-assoc, map}
-use lib.Dec.{ltb, leb, eqb}
-use lib.ListN.{length, take, drop, getD, set}
-use borrow.Author.Tests.{lt-ltb, le-ltb, ltb-true, ltb-false, eqb-true, eqb-false}
+use mathlib.Core.Bool.{Bool, true, false, _&&_, and-true}
+use mathlib.Core.List.{List, [], _∷_, _++_, map}
+use lib.Dec.{ltb}
+use lib.ListN.{length}
+use borrow.Author.Tests.{lt-ltb, ltb-true, ltb-false}
 use Rattle.refusal.specs.Said.{pick}
 use Rattle.ports.specs.declared.Ports.{Ports}
 use Rattle.ports.specs.declared.Port.{Port}
-use Rattle.ports.specs.Ports.{numberAt, placeOf, isFree, leadsTo, portAt, places, nowhere, activeAt, timeAt, unlinkedAt, linkedAt, those, firstThat, folded, taking, lastOf, sooner, earliest, activePorts, entry, only}
+use Rattle.ports.specs.Ports.{numberAt, placeOf, isFree, places, nowhere, activeAt, timeAt, linkedAt, those, firstThat, folded, taking, lastOf, sooner, earliest, activePorts, entry, only}
 use Rattle.ports.specs.Delays.{largest, smallest, spread, total, between, activeBetween, timeTo}
 
 -- ---- a port
@@ -44,8 +44,9 @@ active-is e h = rw e at h
 pub free-is : {q r : Port} {f b : Bool} → q ≡ r → f ≡ isFree (q .«downstream_to») → f ≡ b → isFree (r .«downstream_to») ≡ b
 free-is e h i = cc
 
-pub linked-here : (p : Ports) (d k : ℕ) {q : Port} {f b : Bool} → q ≡ portAt p k → f ≡ q .active && leadsTo d (q .«downstream_to») → f ≡ b → activeAt p k && linkedAt p d k ≡ b
-linked-here p d k e h i = cc
+and-false : (b : Bool) → b && false ≡ false
+and-false true = refl
+and-false false = refl
 
 -- ---- lists of places
 
@@ -76,15 +77,15 @@ module _ (h g : ℕ → Bool) where
       go true next = ap (pick (g k) k) next
       go false next = next
 
-  pub those-those : (ks : List ℕ) → those g (those h ks) ≡ those (λ (k : ℕ). h k && g k) ks
+  pub those-those : (ks : List ℕ) → those g (those h ks) ≡ those (λ (k : ℕ). g k && h k) ks
   unfolding those
   those-those [] = refl
   those-those (k ∷ ks) = go (h k) (those-those ks)
     where
-      go : (b : Bool) → those g (those h ks) ≡ those (λ (k : ℕ). h k && g k) ks
-          → those g (pick b (k ∷ those h ks) (those h ks)) ≡ pick (b && g k) (k ∷ those (λ (k : ℕ). h k && g k) ks) (those (λ (k : ℕ). h k && g k) ks)
-      go true next = ap (λ (l : List ℕ). pick (g k) (k ∷ l) l) next
-      go false next = next
+      go : (b : Bool) → those g (those h ks) ≡ those (λ (k : ℕ). g k && h k) ks
+          → those g (pick b (k ∷ those h ks) (those h ks)) ≡ pick (g k && b) (k ∷ those (λ (k : ℕ). g k && h k) ks) (those (λ (k : ℕ). g k && h k) ks)
+      go true next = rw (and-true (g k)) (ap (λ (l : List ℕ). pick (g k) (k ∷ l) l) next)
+      go false next = rw (and-false (g k)) next
 
 pub length-those : (g : ℕ → Bool) (k : ℕ) (ks : List ℕ) → length (those g (k ∷ ks)) ≡ pick (g k) 1 0 + length (those g ks)
 unfolding those
@@ -135,8 +136,12 @@ module _ (p : Ports) where
   unfolding lastOf activePorts folded
   last-steps = sym (folded-those (activeAt p) (λ (x k : ℕ). k) nowhere places)
 
-  pub linked-steps : (d : ℕ) → firstThat (λ (k : ℕ). activeAt p k && linkedAt p d k) places ≡ firstThat (linkedAt p d) (activePorts p)
-  unfolding activePorts
+  abbrev leads : ℕ → ℕ → Bool
+  leads d k = activeAt p k && linkedAt p d k
+
+  pub linked-steps : (d : ℕ)
+      → pick (leads d 0) 0 (pick (leads d 1) 1 (pick (leads d 2) 2 (pick (leads d 3) 3 nowhere))) ≡ firstThat (linkedAt p d) (activePorts p)
+  unfolding activePorts firstThat
   linked-steps d = sym (first-those (activeAt p) (linkedAt p d) places)
 
   pub largest-steps : folded (taking (activeAt p) (λ (t k : ℕ). max t (timeAt p k))) 0 places ≡ largest (map (timeAt p) (activePorts p))
@@ -165,7 +170,7 @@ module _ (p : Ports) where
 
   between-times : (e k : ℕ) → map (timeAt (only (between e k) p)) (activeBetween p e k) ≡ map (timeAt p) (activeBetween p e k)
   unfolding activeBetween activePorts
-  between-times e k = rw (those-those (activeAt p) (between e k) places) (same-times (between e k) (λ (j : ℕ). activeAt p j && between e k j))
+  between-times e k = rw (those-those (activeAt p) (between e k) places) (same-times (between e k) (λ (j : ℕ). between e k j && activeAt p j))
 
   pub only-total : (e k : ℕ) → e ≡ entry p → total (only (between e k) p) ≡ timeTo p k
   unfolding total timeTo

@@ -25,6 +25,7 @@ saidPort (port.At n) = gives (n ∷ [])
 saidPort port.Absent = absent
 saidPort (port.No x) = saidOf x
 
+-- the time in nanoseconds
 abbrev pub saidTime : TimeAnswer → Said
 saidTime (time.Time t) = gives (t ∷ [])
 saidTime time.Absent = absent
@@ -37,10 +38,12 @@ countOf Passthrough = 2
 countOf Fork = 3
 countOf Cross = 4
 
+-- the topology's count
 abbrev pub saidTopology : TopologyAnswer → Said
 saidTopology (topology.Is x) = gives (countOf x ∷ [])
 saidTopology (topology.No x) = saidOf x
 
+-- the number of bytes
 abbrev pub saidText : TextAnswer → Said
 saidText (text.Written n) = gives (n ∷ [])
 saidText (text.No x) = saidOf x
@@ -51,6 +54,7 @@ saidText (text.No x) = saidOf x
 abbrev pub portSaid : ℕ → Said → Said
 portSaid k none = pick (ltb k nowhere) (gives (numberAt k ∷ [])) none
 
+-- the entry port; 9 where no port is active
 unfoldable pub entrySaid : Ports → Said
 entrySaid p = portSaid (entry p) (refuses 9 [])
 
@@ -62,5 +66,6 @@ lastSaid p = portSaid (lastOf (activePorts p)) absent
 unfoldable pub linkedSaid : Ports → ℕ → Said
 linkedSaid p d = pick (eqb d 0) (refuses 14 []) (portSaid (firstThat (linkedAt p d) (activePorts p)) absent)
 
+-- the topology, by the count of active ports; 9 where there is none
 unfoldable pub topologySaid : Ports → Said
 topologySaid p = pick (eqb (length (activePorts p)) 0) (refuses 9 []) (gives (length (activePorts p) ∷ []))

@@ -1,6 +1,6 @@
 -- Which port the next downstream device is linked to (document 01, 'Ports and delays'). Definitions only.
 use Prim.Native.Nat.{ℕ, zero, suc, _+_}
-use mathlib.Core.List.{List, [], _∷_, _++_}
+use mathlib.Core.List.{List, [], _++_}
 use lib.Dec.{ltb, eqb}
 use lib.ListN.{take, drop}
 use Rattle.refusal.specs.Said.{Said, refuses, absent, pick}
@@ -22,6 +22,7 @@ repeated (suc n) ks = ks ++ repeated n ks
 abbrev pub rounds : ℕ
 rounds = 8
 
+-- how many of it are looked at
 abbrev pub lookMost : ℕ
 lookMost = 4
 

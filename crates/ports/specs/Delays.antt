@@ -25,14 +25,17 @@ delaySaid t = pick (eqb t 0) absent (gives (t ∷ []))
 
 -- ---- over all active ports
 
+-- the total: the largest less the smallest active time
 unfoldable pub total : Ports → ℕ
 total p = spread (map (timeAt p) (activePorts p))
 
+-- what is said of it
 unfoldable pub totalSaid : Ports → Said
 totalSaid p = delaySaid (total p)
 
 -- ---- to a port
 
+-- place j lies from place e to place k
 abbrev pub between : ℕ → ℕ → ℕ → Bool
 between e k j = leb e j && leb j k
 
@@ -44,6 +47,7 @@ activeBetween p e k = those (between e k) (activePorts p)
 unfoldable pub timeTo : Ports → ℕ → ℕ
 timeTo p k = spread (map (timeAt p) (activeBetween p (entry p) k))
 
+-- what is said of it, for port n: 10 is tested before 9
 unfoldable pub timeToSaid : Ports → ℕ → Said
 timeToSaid p n = pick (ltb n portCount) (pick (ltb (entry p) nowhere) (delaySaid (timeTo p (placeOf n))) (refuses 9 [])) (refuses 10 [])
 
@@ -62,8 +66,10 @@ gaps p (suc k) = gaps p k + gap p k
 abbrev pub sumMost : ℕ
 sumMost = 4294967295
 
+-- a sum of delays, or 11
 unfoldable pub sumSaid : ℕ → Said
 sumSaid t = pick (leb t sumMost) (gives (t ∷ [])) (refuses 11 [])
 
+-- the sum over the pairs before port n
 unfoldable pub intermediateSaid : Ports → ℕ → Said
 intermediateSaid p n = pick (ltb n portCount) (sumSaid (gaps p (placeOf n))) (refuses 10 [])

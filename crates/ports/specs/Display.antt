@@ -26,6 +26,7 @@ unfoldable pub words : Ports → ℕ → List ℕ
 words p zero = []
 words p (suc k) = words p k ++ wordOf (activeAt p k)
 
+-- the text: a word for each port, in the order of places
 unfoldable pub textOf : Ports → List ℕ
 textOf p = opening ++ words p portCount ++ closing
 

@@ -19,41 +19,51 @@ numberAt k = getD (0 ∷ 3 ∷ 1 ∷ 2 ∷ []) k 0
 abbrev pub placeOf : ℕ → ℕ
 placeOf n = getD (0 ∷ 2 ∷ 3 ∷ 1 ∷ []) n 0
 
+-- the four places, in order
 abbrev pub places : List ℕ
 places = 0 ∷ 1 ∷ 2 ∷ 3 ∷ []
 
--- ports are numbered below this, and so are places; as a place it means that there is none
+-- ports are numbered below this, and so are places
 abbrev pub portCount : ℕ
 portCount = 4
 
+-- the place of no port
 abbrev pub nowhere : ℕ
 nowhere = portCount
 
 -- ---- a port
 
+-- what is read where a list has no port
 abbrev pub noPort : Port
 noPort = record { active = false; «dc_receive_time» = 0; number = 0; «downstream_to» = Free }
 
+-- the port at place k
 abbrev pub portAt : Ports → ℕ → Port
 portAt p k = getD (p .0) k noPort
 
+-- whether it is active
 abbrev pub activeAt : Ports → ℕ → Bool
 activeAt p k = portAt p k .active
 
+-- its receive time
 abbrev pub timeAt : Ports → ℕ → ℕ
 timeAt p k = portAt p k .«dc_receive_time»
 
+-- no device is linked; a link to device 0 is a link
 abbrev pub isFree : Link → Bool
 isFree Free = true
 isFree (To d) = false
 
+-- whether the port at place k is unlinked
 abbrev pub unlinkedAt : Ports → ℕ → Bool
 unlinkedAt p k = isFree (portAt p k .«downstream_to»)
 
+-- the link is to device d
 abbrev pub leadsTo : ℕ → Link → Bool
 leadsTo d Free = false
 leadsTo d (To l) = eqb l d
 
+-- whether the port at place k is linked to device d
 abbrev pub linkedAt : Ports → ℕ → ℕ → Bool
 linkedAt p d k = leadsTo d (portAt p k .«downstream_to»)
 
@@ -102,6 +112,7 @@ entry p = earliest (timeAt p) (activePorts p)
 
 -- ---- records
 
+-- port n, active or not, with no time and no link
 abbrev pub freshPort : Bool → ℕ → Port
 freshPort a n = record { active = a; «dc_receive_time» = 0; number = n; «downstream_to» = Free }
 
@@ -109,6 +120,7 @@ freshPort a n = record { active = a; «dc_receive_time» = 0; number = n; «down
 unfoldable pub fresh : Bool → Bool → Bool → Bool → Ports
 fresh a0 a3 a1 a2 = record { 0 = freshPort a0 0 ∷ freshPort a3 3 ∷ freshPort a1 1 ∷ freshPort a2 2 ∷ [] }
 
+-- the port with receive time t
 abbrev pub timed : Port → ℕ → Port
 timed q t = record { active = q .active; «dc_receive_time» = t; number = q .number; «downstream_to» = q .«downstream_to» }
 
@@ -116,6 +128,7 @@ timed q t = record { active = q .active; «dc_receive_time» = t; number = q .nu
 unfoldable pub timesSet : Ports → ℕ → ℕ → ℕ → ℕ → Ports
 timesSet p t0 t3 t1 t2 = record { 0 = timed (portAt p 0) t0 ∷ timed (portAt p 1) t3 ∷ timed (portAt p 2) t1 ∷ timed (portAt p 3) t2 ∷ [] }
 
+-- the port with a link to device d
 abbrev pub linked : Port → ℕ → Port
 linked q d = record { active = q .active; «dc_receive_time» = q .«dc_receive_time»; number = q .number; «downstream_to» = To d }
 
@@ -123,8 +136,9 @@ linked q d = record { active = q .active; «dc_receive_time» = q .«dc_receive_
 unfoldable pub linkSet : Ports → ℕ → ℕ → Ports
 linkSet p k d = record { 0 = set (p .0) k (linked (portAt p k) d) }
 
+-- the port, active only if b holds besides
 abbrev pub onlyIf : Port → Bool → Port
-onlyIf q b = record { active = q .active && b; «dc_receive_time» = q .«dc_receive_time»; number = q .number; «downstream_to» = q .«downstream_to» }
+onlyIf q b = record { active = b && q .active; «dc_receive_time» = q .«dc_receive_time»; number = q .number; «downstream_to» = q .«downstream_to» }
 
 -- the record in which only those active ports are active whose places pass a test
 unfoldable pub only : (ℕ → Bool) → Ports → Ports

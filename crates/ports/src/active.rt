@@ -1,6 +1,5 @@
 // The list of active ports, gone through place by place: the entry, the last, the count, the one with a link.
 ghost use mathlib.Core.Path.{_≡_};
-ghost use mathlib.Core.Bool.{Bool, true, false};
 ghost use Prim.Native.Nat.{_<_, _≤_};
 ghost use lib.ListN.{length};
 ghost use Rattle.refusal.specs.Said.{pick};
@@ -63,36 +62,36 @@ pub(crate) fn last_place(p: Ports) -> usize
 pub(crate) fn linked_place(p: Ports, device: u16) -> usize
     ensures { λ r. ⌜ r ≡ firstThat (linkedAt p device) (activePorts p) ⌝ }
 {
-    if leads_to(port_at(p, 0), device) {
+    if leads_to(p, 0, device) {
         return 0;
     }
-    if leads_to(port_at(p, 1), device) {
+    if leads_to(p, 1, device) {
         return 1;
     }
-    if leads_to(port_at(p, 2), device) {
+    if leads_to(p, 2, device) {
         return 2;
     }
-    if leads_to(port_at(p, 3), device) {
+    if leads_to(p, 3, device) {
         return 3;
     }
     4
 }
 
-fn one_if(b: bool) -> u8
-    ensures { λ r. ⌜ (r ≡ pick b 1 0) × (r ≤ 1) ⌝ }
+// 1 if the port at a place is active, else 0.
+fn one_if(p: Ports, k: usize) -> u8
+    requires { ⌜ k < 4 ⌝ }
+    ensures { λ r. ⌜ (r ≡ pick (activeAt p k) 1 0) × (r ≤ 1) ⌝ }
 {
-    if b { 1 } else { 0 }
+    let a = p.0;
+    let q = a[k];
+    if q.active { 1 } else { 0 }
 }
 
 // How many ports are active.
 pub(crate) fn count(p: Ports) -> u8
     ensures { λ r. ⌜ (r ≡ length (activePorts p)) × (r ≤ 4) ⌝ }
 {
-    let a = one_if(port_at(p, 0).active);
-    let b = one_if(port_at(p, 1).active);
-    let c = one_if(port_at(p, 2).active);
-    let d = one_if(port_at(p, 3).active);
-    a + (b + (c + d))
+    one_if(p, 0) + (one_if(p, 1) + (one_if(p, 2) + one_if(p, 3)))
 }
 
 // The topology by the count of active ports.

@@ -4,10 +4,8 @@ ghost use mathlib.Core.List.{List, _∷_, _++_};
 ghost use Prim.Native.Nat.{ℕ, _<_};
 ghost use Rattle.refusal.specs.Said.{pick};
 ghost use Rattle.ports.specs.Ports.{isFree, activeAt, activePorts, entry};
-ghost use Rattle.ports.specs.Assigning as paper;
-use crate::Assigned;
+ghost use Rattle.ports.specs.Assigning.{assignable, finds};
 use crate::Link;
-use crate::PortAnswer;
 use crate::Ports;
 use crate::place::port_at;
 
@@ -21,13 +19,7 @@ pub(crate) struct Look {
     taken: usize,
 }
 
-// The record as it is, with this answer.
-pub(crate) fn unchanged(p: Ports, answer: PortAnswer) -> Assigned
-    ensures { λ r. ⌜ r ≡ paper.unchanged p answer ⌝ }
-{
-    Assigned { answer, ports: p }
-}
-
+// Whether no device is linked.
 fn is_free(link: Link) -> bool
     ensures { λ r. ⌜ r ≡ isFree link ⌝ }
 {
@@ -40,7 +32,7 @@ fn is_free(link: Link) -> bool
 // The search passes the place k.
 fn pass(p: Ports, l: Look, k: usize) -> Look
     requires { ⌜ k < 4 ⌝ }
-    ensures { λ r. ⌜ ((ks : List ℕ) → paper.finds p r ks ≡ paper.finds p l (pick (activeAt p k) (k ∷ ks) ks)) ⌝ }
+    ensures { λ r. ⌜ ((ks : List ℕ) → finds p r ks ≡ finds p l (pick (activeAt p k) (k ∷ ks) ks)) ⌝ }
 {
     let q = port_at(p, k);
     if q.active {
@@ -69,7 +61,7 @@ fn pass(p: Ports, l: Look, k: usize) -> Look
 
 // The search passes the list of active ports once.
 fn turn(p: Ports, l: Look) -> Look
-    ensures { λ r. ⌜ ((ks : List ℕ) → paper.finds p r ks ≡ paper.finds p l (activePorts p ++ ks)) ⌝ }
+    ensures { λ r. ⌜ ((ks : List ℕ) → finds p r ks ≡ finds p l (activePorts p ++ ks)) ⌝ }
 {
     pass(p, pass(p, pass(p, pass(p, l, 0), 1), 2), 3)
 }
@@ -77,7 +69,7 @@ fn turn(p: Ports, l: Look) -> Look
 // The place that the next downstream device is linked to, or 4; e is the entry's place.
 pub(crate) fn next_assignable_port(p: Ports, e: usize) -> usize
     requires { ⌜ (e ≡ entry p) × (e < 4) ⌝ }
-    ensures { λ r. ⌜ r ≡ paper.assignable p ⌝ }
+    ensures { λ r. ⌜ r ≡ assignable p ⌝ }
 {
     let mut l = Look {
         skip: e + 1,

@@ -1,9 +1,8 @@
 // Delays from the receive times of the active ports: over all of them, from the entry to a port, between neighbours.
 ghost use mathlib.Core.Path.{_≡_};
-ghost use mathlib.Core.Bool.{_&&_};
 ghost use mathlib.Core.List.{map};
-ghost use Prim.Native.Nat.{_<_, _≤_, _-_, _*_, max};
-ghost use Rattle.ports.specs.Ports.{activeAt, timeAt, taking, activePorts, onlyIf, only};
+ghost use Prim.Native.Nat.{_<_, _≤_, _-_, max};
+ghost use Rattle.ports.specs.Ports.{activeAt, timeAt, taking, portAt, activePorts, onlyIf, only};
 ghost use Rattle.ports.specs.Answers.{saidTime};
 ghost use Rattle.ports.specs.Delays.{largest, total, delaySaid, gap, gaps, between};
 use crate::Port;
@@ -66,23 +65,24 @@ pub(crate) fn total_time(p: Ports) -> u32
     }
 }
 
-// The port, active only if this holds besides.
-fn only_if(q: Port, b: bool) -> Port
-    ensures { λ r. ⌜ r ≡ onlyIf q b ⌝ }
+// The port at a place, active only if the place lies from one to another.
+fn kept(p: Ports, from: usize, to: usize, k: usize) -> Port
+    requires { ⌜ k < 4 ⌝ }
+    ensures { λ r. ⌜ r ≡ onlyIf (portAt p k) (between from to k) ⌝ }
 {
+    let a = p.0;
+    let q = a[k];
     let link = q.downstream_to;
     Port {
-        active: if q.active { b } else { false },
+        active: if from <= k {
+            if k <= to { q.active } else { false }
+        } else {
+            false
+        },
         dc_receive_time: q.dc_receive_time,
         number: q.number,
         downstream_to: link,
     }
-}
-
-fn within(from: usize, to: usize, k: usize) -> bool
-    ensures { λ r. ⌜ r ≡ between from to k ⌝ }
-{
-    if from <= k { k <= to } else { false }
 }
 
 // The record in which only places from one to another are active.
@@ -90,10 +90,10 @@ pub(crate) fn narrowed(p: Ports, from: usize, to: usize) -> Ports
     ensures { λ r. ⌜ r ≡ only (between from to) p ⌝ }
 {
     Ports([
-        only_if(port_at(p, 0), within(from, to, 0)),
-        only_if(port_at(p, 1), within(from, to, 1)),
-        only_if(port_at(p, 2), within(from, to, 2)),
-        only_if(port_at(p, 3), within(from, to, 3)),
+        kept(p, from, to, 0),
+        kept(p, from, to, 1),
+        kept(p, from, to, 2),
+        kept(p, from, to, 3),
     ])
 }
 

@@ -13,7 +13,6 @@ use active::last_place;
 use active::linked_place;
 use active::topology_of;
 use assign::next_assignable_port;
-use assign::unchanged;
 use delay::delay;
 use delay::gaps_before;
 use delay::narrowed;
@@ -22,9 +21,8 @@ use place::fresh_port;
 use place::linked_at;
 use place::number_at;
 use place::place_of;
-use place::port_at;
 use place::port_or_absent;
-use place::timed_port;
+use place::timed_at;
 use refusal::Refusal;
 use text::put_text;
 use text::text_len;
@@ -43,6 +41,7 @@ pub enum Link {
     To(u16),
 }
 
+// One port of a device.
 pub struct Port {
     pub active: bool,
     // When the port saw the frame, by the device's clock, in nanoseconds.
@@ -118,10 +117,10 @@ impl Ports {
         ensures { λ r. ⌜ r ≡ timesSet self «time_p0» «time_p3» «time_p1» «time_p2» ⌝ }
     {
         Ports([
-            timed_port(port_at(self, 0), time_p0),
-            timed_port(port_at(self, 1), time_p3),
-            timed_port(port_at(self, 2), time_p1),
-            timed_port(port_at(self, 3), time_p2),
+            timed_at(self, 0, time_p0),
+            timed_at(self, 1, time_p3),
+            timed_at(self, 2, time_p1),
+            timed_at(self, 3, time_p2),
         ])
     }
 
@@ -199,7 +198,10 @@ impl Ports {
         ensures { λ r. ⌜ r ≡ assignedOf self «downstream_subdevice_index» ⌝ }
     {
         if downstream_subdevice_index == 0 {
-            return unchanged(self, PortAnswer::No(Refusal::BadArgument));
+            return Assigned {
+                answer: PortAnswer::No(Refusal::BadArgument),
+                ports: self,
+            };
         }
         let e = entry_place(self);
         if e < 4 {
@@ -210,10 +212,16 @@ impl Ports {
                     ports: linked_at(self, k, downstream_subdevice_index),
                 }
             } else {
-                unchanged(self, PortAnswer::Absent)
+                Assigned {
+                    answer: PortAnswer::Absent,
+                    ports: self,
+                }
             }
         } else {
-            unchanged(self, PortAnswer::No(Refusal::NoPort))
+            Assigned {
+                answer: PortAnswer::No(Refusal::NoPort),
+                ports: self,
+            }
         }
     }
 

@@ -3,7 +3,7 @@ ghost use mathlib.Core.Path.{_≡_};
 ghost use mathlib.Core.Bool.{_&&_};
 ghost use Prim.Native.Nat.{_<_};
 ghost use Rattle.refusal.specs.Said.{absent};
-ghost use Rattle.ports.specs.Ports.{numberAt, placeOf, portAt, freshPort, timed, linkSet, leadsTo};
+ghost use Rattle.ports.specs.Ports.{numberAt, placeOf, portAt, activeAt, linkedAt, freshPort, timed, linkSet};
 ghost use Rattle.ports.specs.Answers.{saidPort, portSaid};
 use crate::Link;
 use crate::Port;
@@ -50,10 +50,13 @@ pub(crate) fn port_at(p: Ports, k: usize) -> Port
     a[k]
 }
 
-// Whether a port is active and linked to this device.
-pub(crate) fn leads_to(q: Port, device: u16) -> bool
-    ensures { λ r. ⌜ r ≡ q .active && leadsTo device (q .«downstream_to») ⌝ }
+// Whether the port at a place is active and linked to this device.
+pub(crate) fn leads_to(p: Ports, k: usize, device: u16) -> bool
+    requires { ⌜ k < 4 ⌝ }
+    ensures { λ r. ⌜ r ≡ activeAt p k && linkedAt p device k ⌝ }
 {
+    let a = p.0;
+    let q = a[k];
     if q.active {
         let link = q.downstream_to;
         match link {
@@ -77,10 +80,13 @@ pub(crate) fn fresh_port(active: bool, number: u8) -> Port
     }
 }
 
-// The port with this receive time.
-pub(crate) fn timed_port(q: Port, time: u32) -> Port
-    ensures { λ r. ⌜ r ≡ timed q time ⌝ }
+// The port at a place with this receive time.
+pub(crate) fn timed_at(p: Ports, k: usize, time: u32) -> Port
+    requires { ⌜ k < 4 ⌝ }
+    ensures { λ r. ⌜ r ≡ timed (portAt p k) time ⌝ }
 {
+    let a = p.0;
+    let q = a[k];
     let link = q.downstream_to;
     Port {
         active: q.active,

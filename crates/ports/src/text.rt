@@ -1,28 +1,29 @@
 // The text of a device's ports, word by word into a lent buffer.
 ghost use mathlib.Core.Path.{_≡_};
-ghost use Prim.Native.Nat.{_+_, _≤_};
+ghost use Prim.Native.Nat.{_+_, _≤_, _<_};
 ghost use lib.ListN.{length};
 ghost use Rattle.wire.specs.Bytes.{laid, overlay};
+ghost use Rattle.ports.specs.Ports.{activeAt};
 ghost use Rattle.ports.specs.Display.{wordOf, words, textOf};
 use crate::Ports;
 use crate::place::port_at;
 use wire::lay;
 
-fn word_len(active: bool) -> usize
-    ensures { λ r. ⌜ (r ≡ length (wordOf active)) × (r ≤ 7) ⌝ }
+// How long the word of the port at a place is.
+fn word_len(p: Ports, k: usize) -> usize
+    requires { ⌜ k < 4 ⌝ }
+    ensures { λ r. ⌜ (r ≡ length (wordOf (activeAt p k))) × (r ≤ 7) ⌝ }
 {
-    if active { 5 } else { 7 }
+    let a = p.0;
+    let q = a[k];
+    if q.active { 5 } else { 7 }
 }
 
 // How long the text is.
 pub(crate) fn text_len(p: Ports) -> usize
     ensures { λ r. ⌜ r ≡ length (textOf p) ⌝ }
 {
-    let a = word_len(port_at(p, 0).active);
-    let b = word_len(port_at(p, 1).active);
-    let c = word_len(port_at(p, 2).active);
-    let d = word_len(port_at(p, 3).active);
-    8 + a + b + c + d + 1
+    8 + word_len(p, 0) + word_len(p, 1) + word_len(p, 2) + word_len(p, 3) + 1
 }
 
 // Lays a port's word over the buffer; the place behind it.

@@ -3,38 +3,22 @@
 use Prim.Native.Nat.{ℕ, _+_, _≤_, _<_}
 use native.Mathlib.Omega.{arith}
 use mathlib.Core.Path.{_≡_, refl, sym, ap, _∙_}
-use mathlib.Core.List.{List, [], _∷_}
+use mathlib.Core.List.{List, []}
 use mathlib.Core.Bool.{Bool, true, false}
 use lib.ListN.{length, take}
 use lib.Dec.{leb}
 use borrow.Author.Tests.{leb-true}
-use Rattle.refusal.specs.Said.{Said, gives, refuses, pick}
-use Rattle.wire.specs.Bytes.{byteAt, le16, bytes16, overlay}
+use Rattle.refusal.specs.Said.{gives, refuses, pick}
+use Rattle.wire.specs.Bytes.{byteAt, le16, bytes16}
 use Rattle.wire.proofs.Laws.{length-overlay}
 use Rattle.crc.specs.Crc.{crcOf}
 use Rattle.eeprom.specs.Image.{within}
 use Rattle.category.specs.Numbers as numbers
-use Rattle.sii.specs.Layout.{
-  Field,
-  fixed,
-  field,
-  start,
-  checksum,
-  vendorId,
-  productCode,
-  revisionNumber,
-  serialNumber,
-  receiveMailboxOffset,
-  receiveMailboxSize,
-  sendMailboxOffset,
-  sendMailboxSize,
-  mailboxProtocol,
-  memorySize,
-}
+use Rattle.sii.specs.Layout.{Field, fixed, start, checksum, vendorId, productCode, revisionNumber, serialNumber, receiveMailboxOffset, receiveMailboxSize, sendMailboxOffset, sendMailboxSize, mailboxProtocol, memorySize}
 use Rattle.sii.specs.Fixed.{lent, aliasSaid, identityOf, identitySaid, mailboxOf, mailboxSaid, sizeSaid, checksumEnd, withAlias, withChecksum, aliased, setSaid, setImage}
 use Rattle.sii.specs.General.{generalOf, generalAdmits, generalIn, generalFound, generalSaid}
 use Rattle.sii.specs.Alias.{SameFrom, AliasKept}
-use Rattle.sii.proofs.Bytes.{overlay-before, overlay-behind, overlay-inside, overlay-front, bytes16-back}
+use Rattle.wire.proofs.Overlay.{overlay-before, overlay-past, overlay-inside, overlay-front, bytes16-back}
 use Rattle.sii.proofs.Same.{categories, same-weaker, field-same, within-same, on-category-same, category-same}
 
 -- ---- read-outs that look only behind the checksum
@@ -101,7 +85,7 @@ module _ (image : List ℕ) (alias : ℕ) (h : checksumEnd ≤ length image) whe
   unfolding withChecksum withAlias
   set-behind = record {
     size = set-length;
-    bytes = λ i k. overlay-behind (withAlias image alias) 14 _ (omega (arith, put-length)) i k ∙ overlay-behind image 8 (bytes16 alias) (omega arith) i (omega arith);
+    bytes = λ i k. overlay-past (withAlias image alias) 14 _ (omega (arith, put-length)) i k ∙ overlay-past image 8 (bytes16 alias) (omega arith) i (omega arith);
   }
 
   alias-byte : (k : ℕ) → k < 2 → byteAt (aliased image alias) (8 + k) ≡ byteAt (bytes16 alias) k

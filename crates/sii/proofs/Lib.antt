@@ -1,5 +1,4 @@
 pub mod Laws
 pub mod Unique
-pub mod Bytes
 pub mod Same
 pub mod Alias

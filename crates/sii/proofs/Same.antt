@@ -1,17 +1,16 @@
 -- Two images that hold the same bytes from the first category's header on have the same categories, and what is read there is the same:
 -- the search begins at word 0x0040 and only moves on.
-use Prim.Native.Nat.{ℕ, zero, suc, _+_, _*_, _≤_, _<_}
+use Prim.Native.Nat.{ℕ, zero, suc, _+_, _*_, _≤_}
 use native.Mathlib.Omega.{arith}
-use mathlib.Core.Path.{_≡_, refl, sym, ap, _∙_}
+use mathlib.Core.Path.{_≡_, refl}
 use mathlib.Core.List.{List, [], _∷_}
 use mathlib.Core.Bool.{Bool, true, false}
-use lib.ListN.{length, getD}
+use lib.ListN.{getD}
 use lib.Dec.{ltb, leb, eqb}
 use Rattle.refusal.specs.Said.{Said, gives, absent, refuses, pick, on2}
-use Rattle.wire.specs.Bytes.{byteAt}
 use Rattle.eeprom.specs.Image.{endMost, within}
 use Rattle.eeprom.specs.Range.{newSaid}
-use Rattle.category.specs.Layout.{firstHeader, headerWords, typeAt, lengthAt, endMark, wordMost}
+use Rattle.category.specs.Layout.{firstHeader, typeAt, lengthAt, endMark, wordMost}
 use Rattle.category.specs.Category.{emptyMost, counted, among, numbers, Stepped, done, next, decided, stepped, follow, searchOver, searchFrom, searched, categorySaid}
 use Rattle.sii.specs.Layout.{Field, byte, word, long, start, field, atWord}
 use Rattle.sii.specs.Alias.{SameFrom}

@@ -1,13 +1,13 @@
 -- The loop over the areas: what is done and what the rest of the run gives are the whole run.
 use mathlib.Core.Path.{_≡_, _∙_, sym, refl, ap}
-use mathlib.Core.Bool.{Bool, true, false}
+use mathlib.Core.Bool.{true}
 use mathlib.Core.List.{List, [], _∷_, _++_, append-assoc, append-nil}
-use Prim.Native.Nat.{ℕ, zero, suc, _+_, _*_, _-_, _≤_, _<_, min}
+use Prim.Native.Nat.{ℕ, zero, suc, _+_, _*_, _-_, _≤_, _<_}
 use native.Mathlib.Nat.{sub-zero, suc-mul, mul-le-mul-right, zero-mul, zero-add}
 use native.Mathlib.Numerals.{add-one}
 use native.Mathlib.Omega.{arith}
 use borrow.Author.Tests.{eq-eqb, ne-eqb}
-use lib.ListN.{length, take, drop, set, replicate, length-drop, length-set, length-take, take-append-drop}
+use lib.ListN.{length, take, drop, set, replicate, length-drop, length-set, take-append-drop}
 use lib.Seq.{drop-drop, take-suc-set, drop-set-lt, append-snoc, length-take-le}
 use Rattle.wire.specs.Bytes.{overlay}
 use Rattle.wire.proofs.Laws.{length-overlay}
@@ -19,7 +19,6 @@ use Rattle.created_frame.proofs.States.{opened-sound}
 use Rattle.created_frame.proofs.Whole.{length-after-rest}
 use Rattle.cuts.proofs.Laws.{row-cap}
 use Rattle.cuts.specs.Measure.{cap}
-use Rattle.spread.specs.declared.SpreadAnswer.{SpreadAnswer}
 use Rattle.spread.specs.declared.SpreadAnswer.the-variants.{Last}
 use Rattle.spread.specs.declared.Spreading.{Spreading}
 use Rattle.spread.specs.Answers.{firstOf}

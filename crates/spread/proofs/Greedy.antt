@@ -21,7 +21,7 @@ use Rattle.created_frame.specs.Frame.{sound, fresh, after, taken, restBuilder, 
 use Rattle.created_frame.specs.Built.{made, restAdds, Built}
 use Rattle.created_frame.proofs.Built.{built-open, built-rest, built-sound, some}
 use Rattle.spread.specs.Row.{zeroed, Run, rowFrom}
-use Rattle.spread.specs.Laid.{laidIn, stateOf, laid, statesOf, inArea, newsOf, indexPast}
+use Rattle.spread.specs.Laid.{laidIn, laid, statesOf, inArea, newsOf, indexPast}
 use Rattle.created_frame.proofs.States.{rest-next}
 use Rattle.created_frame.proofs.Whole.{length-after-rest}
 use Rattle.spread.proofs.Push.{zeroed-length, push-adds}

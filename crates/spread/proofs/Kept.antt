@@ -1,5 +1,5 @@
 -- What a spreading leaves alone, whatever the first area held: by going along the areas, each of which keeps its length.
-use mathlib.Core.Path.{_≡_, refl, sym, ap, _∙_}
+use mathlib.Core.Path.{_≡_, refl, sym, _∙_}
 use mathlib.Core.Bool.{Bool, true, false, false≢true}
 use mathlib.Core.List.{List, [], _∷_, _++_}
 use Prim.Native.Nat.{ℕ, zero, suc, _+_, _-_, _*_, _/_, _≤_, _<_}
@@ -9,7 +9,7 @@ use borrow.Author.Tests.{leb-false}
 use lib.Dec.{eqb}
 use lib.ListN.{length, take, drop, length-append, length-drop}
 use lib.Seq.{drop-at, drop-drop, length-take-le, take-at}
-use Rattle.refusal.specs.Said.{Said, gives, refuses, pick}
+use Rattle.refusal.specs.Said.{gives, refuses, pick}
 use Rattle.created_frame.specs.declared.Builder.{Builder}
 use Rattle.created_frame.specs.Frame.{fresh, taken, restBuilder, restNext, afterRest}
 use Rattle.created_frame.proofs.States.{rest-absent-kept}

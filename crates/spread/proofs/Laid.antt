@@ -1,20 +1,20 @@
 -- Areas laid with PDUs are read back as these: one frame by the reader's own theorem, the row by going along it. An area of our builder is one.
 use mathlib.Core.Path.{_≡_, refl, ap, sym, _∙_}
-use Prim.Native.Nat.{ℕ, zero, suc, _+_, _*_, _-_, _≤_, _<_}
+use Prim.Native.Nat.{ℕ, suc, _+_, _*_, _-_, _≤_}
 use native.Mathlib.Omega.{arith}
 use native.Mathlib.Nat.{suc-mul, zero-mul}
 use mathlib.Core.List.{List, [], _∷_, _++_, append-assoc, append-nil, map}
 use lib.ListN.{length, take, drop, replicate, length-append, length-replicate, length-map}
 use lib.Seq.{take-at, drop-at, take-all}
 use Rattle.pdu.specs.declared.PduFields.{PduFields}
-use Rattle.pdu.specs.Pdu.{Pdu, follows, layout, lastAt, AllFit, frameHeader}
-use Rattle.pdu.specs.Read.{Reading, read, readOf, shown, shownAll, payloadOf, withMore}
+use Rattle.pdu.specs.Pdu.{Pdu, follows, layout, AllFit, frameHeader}
+use Rattle.pdu.specs.Read.{Reading, read, readOf, pdusOf, shown, shownAll, payloadOf, withMore}
 use Rattle.pdu.proofs.Reading.{frame-read, frame-payloads}
 use Rattle.created_frame.specs.declared.Builder.{Builder}
 use Rattle.created_frame.specs.Built.{Built}
-use Rattle.created_frame.proofs.Built.{built-length, built-read, built-payloads}
-use Rattle.spread.specs.Laid.{laidIn, stateOf, laid, statesOf, Fitting}
-use Rattle.spread.specs.ReadBack.{frameOf, framesOf, fieldsOf, fieldsIn, AllRead, Back, backAt, readBack, Kept, same, more-follows, StillThere}
+use Rattle.created_frame.proofs.Built.{built-length}
+use Rattle.spread.specs.Laid.{laidIn, stateOf, laid, statesOf, Fitting, AllBuilt}
+use Rattle.spread.specs.ReadBack.{frameOf, framesOf, fieldsIn, AllRead, Back, backAt, readBack, Kept, same, more-follows, StillThere}
 use Rattle.spread.proofs.Lists.{map-append, map-drop, map-take}
 
 -- ---- an area
@@ -22,6 +22,12 @@ use Rattle.spread.proofs.Lists.{map-append, map-drop, map-take}
 pub laid-length : (size : ℕ) (ps : List Pdu) → length (layout ps) ≤ size → length (laidIn size ps) ≡ size
 unfolding laidIn
 laid-length size ps h = omega (arith, length-append (layout ps) (replicate (size - length (layout ps)) 0), length-replicate {A = ℕ} (size - length (layout ps)) 0)
+
+-- it is as our builder leaves one
+pub laid-built : (size : ℕ) (ps : List Pdu) → size ≤ 2047 → length (layout ps) ≤ size → AllFit ps → Built ps (laidIn size ps) (stateOf ps)
+unfolding laidIn
+laid-built size ps m h fit =
+    record { free = size - length (layout ps); bytes = refl; small = omega (arith, laid-length size ps h); used-is = refl; count-is = refl; last-is = refl; fit = fit }
 
 -- what our builder leaves is laid, and its state is the PDUs'
 module _ (ps : List Pdu) (xs : List ℕ) (b : Builder) (h : Built ps xs b) where
@@ -73,7 +79,7 @@ pub behind-olds : (a : ℕ) (f : List ℕ) (olds ps : List Pdu) → readOf f ≡
     → map (payloadOf f) (shownAll 2 (olds ++ ps)) ≡ map (λ (p : Pdu). p .payload) (olds ++ ps)
     → map (backAt a f) (drop (length olds) (fieldsIn f)) ≡ map (backOf a) ps
 behind-olds a f olds ps r e =
-    ap (λ (z : Reading). map (backAt a f) (drop (length olds) (fieldsOf z))) r
+    ap (λ (z : Reading). map (backAt a f) (drop (length olds) (pdusOf z))) r
     ∙ map-drop (backAt a f) (length olds) (shownAll 2 (olds ++ ps))
     ∙ ap (λ (z : List Back). drop (length olds) z) (backs-one a 2 f (olds ++ ps) e ∙ map-append (backOf a) olds ps)
     ∙ drop-at (map (backOf a) olds) (map (backOf a) ps) (length olds) (length-map olds (backOf a))
@@ -101,8 +107,8 @@ pub still-there : (f₀ f : List ℕ) (olds ps : List Pdu)
     → readOf f ≡ read (shownAll 2 (olds ++ ps)) → map (payloadOf f) (shownAll 2 (olds ++ ps)) ≡ map (λ (p : Pdu). p .payload) (olds ++ ps)
     → StillThere (length olds) f₀ f
 still-there f₀ f olds ps r₀ e₀ r e =
-    let v₀ : fieldsIn f₀ ≡ shownAll 2 olds = ap fieldsOf r₀ in
-    let v : fieldsIn f ≡ shownAll 2 (olds ++ ps) = ap fieldsOf r in
+    let v₀ : fieldsIn f₀ ≡ shownAll 2 olds = ap pdusOf r₀ in
+    let v : fieldsIn f ≡ shownAll 2 (olds ++ ps) = ap pdusOf r in
     record {
       were = r₀ ∙ ap read (sym v₀);
       counted = ap length v₀ ∙ shown-length 2 olds;
@@ -148,7 +154,16 @@ module _ (size : ℕ) (m : size ≤ 2047) where
   laid-accepted olds (ps ∷ pss) rest f =
       let y = laid size [] pss ++ rest in
       let r = one-read size (olds ++ ps) y m (f .0) (f .1) in
-      rw (row-split olds ps pss rest, next-area (olds ++ ps) y (f .0)) (r ∙ ap (λ (z : Reading). read (fieldsOf z)) (sym r), laid-accepted [] pss rest (f .2))
+      rw (row-split olds ps pss rest, next-area (olds ++ ps) y (f .0)) (r ∙ ap (λ (z : Reading). read (pdusOf z)) (sym r), laid-accepted [] pss rest (f .2))
+
+  -- .. and each area is one of our builder's
+  pub all-built : (olds : List Pdu) (pss : List (List Pdu)) (rest : List ℕ) → Fitting size olds pss → AllBuilt size olds pss (laid size olds pss ++ rest)
+  unfolding Fitting AllBuilt
+  all-built olds [] rest f = tt
+  all-built olds (ps ∷ pss) rest f =
+      let y = laid size [] pss ++ rest in
+      let t : take size (laidIn size (olds ++ ps) ++ y) ≡ laidIn size (olds ++ ps) = take-at (laidIn size (olds ++ ps)) y size (laid-length size (olds ++ ps) (f .0)) in
+      rw (row-split olds ps pss rest, next-area (olds ++ ps) y (f .0), t) (laid-built size (olds ++ ps) m (f .0) (f .1), all-built [] pss rest (f .2))
 
   -- .. and the PDUs behind `olds` are read back, in order
   pub laid-back : (i : ℕ) (olds : List Pdu) (pss : List (List Pdu)) (rest : List ℕ) → Fitting size olds pss

@@ -1,20 +1,19 @@
 -- Laws of the rule: what `lawful` means, and each way out of the call.
 use mathlib.Core.Path.{_≡_, refl, sym, ap, _∙_}
 use mathlib.Core.Bool.{Bool, true, false}
-use mathlib.Core.List.{List, [], _∷_}
-use Prim.Native.Nat.{ℕ, _+_, _*_, _/_, _%_, _≤_, _<_}
+use mathlib.Core.List.{List, []}
+use Prim.Native.Nat.{ℕ, _+_, _*_, _/_, _%_, _≤_}
 use native.Mathlib.Nat.{div-add-mod', add-zero}
-use borrow.Author.Tests.{leb-true, eqb-true, le-leb, lt-leb}
+use borrow.Author.Tests.{leb-true, eqb-true}
 use lib.Dec.{leb}
 use lib.ListN.{length, take, replicate}
-use Rattle.refusal.specs.Said.{Said, saidOf, numberOf, valuesOf, gives, refuses, pick}
+use Rattle.refusal.specs.Said.{saidOf}
 use Rattle.refusal.specs.declared.Refusal.{Refusal}
 use Rattle.refusal.proofs.Tests.{both}
 use Rattle.pdu.specs.Pdu.{areaMost}
 use Rattle.created_frame.specs.declared.Builder.{Builder}
 use Rattle.created_frame.specs.Frame.{sound, fresh}
 use Rattle.spread.specs.declared.Spreading.{Spreading}
-use Rattle.spread.specs.declared.SpreadAnswer.{SpreadAnswer}
 use Rattle.spread.specs.declared.SpreadAnswer.the-variants.{Last, No}
 use Rattle.spread.specs.Answers.{saidLast}
 use Rattle.spread.specs.Row.{areasMost, imageMost, commandLeast, commandLast, addressEnd, Run, rowFrom, lawful, roomIn, padded, Outcome, done, no, spreadOf}

@@ -1,6 +1,6 @@
 -- What a callee leaves in a part of the row, said of the whole row: laws of `overlay`.
 use mathlib.Core.Path.{_≡_, _∙_, sym, refl, ap}
-use mathlib.Core.List.{List, [], _∷_, _++_, append-assoc}
+use mathlib.Core.List.{List, _++_, append-assoc}
 use Prim.Native.Nat.{ℕ, _+_, _-_, _≤_}
 use native.Mathlib.Nat.{add-sub-cancel-left}
 use native.Mathlib.Omega.{arith}
@@ -8,7 +8,6 @@ use borrow.Rule.Slice.PartMut.{putMid}
 use borrow.Author.Tests.{le-leb}
 use lib.ListN.{length, take, drop, replicate, length-take, length-drop, length-append, length-replicate}
 use lib.Seq.{take-all, take-at, drop-at, length-take-le}
-use Rattle.refusal.specs.Said.{Said}
 use Rattle.wire.specs.Bytes.{overlay}
 use Rattle.wire.proofs.Laws.{overlay-part}
 use Rattle.created_frame.specs.declared.Builder.{Builder}

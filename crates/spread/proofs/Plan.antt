@@ -1,6 +1,6 @@
 -- The PDUs of a plan, area by area: they are its pieces in order, the areas of a permitted plan have room for them, and they carry the image. Each by going along the pieces.
 use mathlib.Core.Path.{_≡_, refl, ap, sym, _∙_}
-use Prim.Native.Nat.{ℕ, zero, suc, _+_, _-_, _≤_, _<_, min}
+use Prim.Native.Nat.{ℕ, zero, suc, _+_, _-_, _≤_, _<_}
 use native.Mathlib.Omega.{arith}
 use mathlib.Core.Bool.{Bool, true, false}
 use mathlib.Core.List.{List, [], _∷_, _++_, append-nil, map}
@@ -9,12 +9,11 @@ use lib.Dec.{eqb}
 use lib.Seq.{length-take-le, drop-drop}
 use borrow.Author.Tests.{eqb-true, eqb-false, eq-eqb, ne-eqb}
 use Rattle.refusal.specs.Said.{pick}
-use Rattle.pdu.specs.Pdu.{Pdu, Fits, layout, AllFit}
+use Rattle.pdu.specs.Pdu.{Pdu, layout, AllFit}
 use Rattle.pdu.proofs.Rows.{layout-none, layout-length}
 use Rattle.cuts.specs.Cut.{Piece, Chain, Rising, load, Permitted, freeOf}
 use Rattle.cuts.proofs.Laws.{chain-le, free-later}
 use Rattle.created_frame.specs.Frame.{after}
-use Rattle.created_frame.specs.Built.{made}
 use Rattle.spread.specs.Laid.{bytesOf, pduOf, inArea, newsOf, Fitting}
 use Rattle.spread.specs.ReadBack.{Back, joined, piecesOf, Numbered}
 use Rattle.spread.proofs.Laid.{backOf, backs}

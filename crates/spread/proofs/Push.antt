@@ -7,7 +7,7 @@ use native.Mathlib.Omega.{arith}
 use borrow.Author.Tests.{eqb-true, eq-eqb}
 use lib.Dec.{eqb}
 use lib.ListN.{length, take, length-replicate}
-use Rattle.refusal.specs.Said.{Said, gives, absent, pick}
+use Rattle.refusal.specs.Said.{gives, absent, pick}
 use Rattle.created_frame.specs.declared.Builder.{Builder}
 use Rattle.created_frame.specs.Frame.{commandMost, dataMost, sound, handle, taken, restPushed}
 use Rattle.created_frame.specs.Built.{made, restAdds}

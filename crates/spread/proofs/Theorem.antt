@@ -1,21 +1,19 @@
 -- Demand 3, of the rule and then of the call: the run carries out the greedy plan, its areas are laid with the plan's PDUs, and these read back as the plan's pieces.
 use mathlib.Core.Path.{_≡_, refl, sym, ap, _∙_}
-use mathlib.Core.Bool.{Bool, true, false, false≢true}
+use mathlib.Core.Bool.{true, false, false≢true}
 use mathlib.Core.List.{List, [], _∷_, _++_}
-use Prim.Native.Nat.{ℕ, zero, suc, _+_, _-_, _*_, _/_, _≤_, _<_}
+use Prim.Native.Nat.{ℕ, _+_, _-_, _*_, _/_, _≤_}
 use native.Mathlib.Omega.{arith}
 use native.Mathlib.Nat.{sub-zero, mul-le-mul-right}
 use borrow.Author.Tests.{leb-true, le-leb}
-use lib.Dec.{leb}
 use lib.ListN.{length, take, drop, length-take, length-append, length-drop}
 use lib.Seq.{take-take, take-at, drop-at, length-take-le}
 use Rattle.refusal.specs.Said.{Said, gives, refuses, numberOf, valuesOf}
 use Rattle.refusal.specs.declared.Refusal.{Refusal}
 use Rattle.refusal.specs.declared.Refusal.the-variants.{NoRoom}
-use Rattle.pdu.specs.Pdu.{Pdu, layout}
-use Rattle.cuts.specs.Cut.{Piece, Permitted, lastArea, freeOf}
-use Rattle.cuts.specs.Greedy.{greedyFrom, greedy}
-use Rattle.cuts.specs.Measure.{cap}
+use Rattle.pdu.specs.Pdu.{Pdu}
+use Rattle.cuts.specs.Cut.{Piece, Permitted, lastArea}
+use Rattle.cuts.specs.Greedy.{greedy}
 use Rattle.cuts.proofs.Laws.{rising-last, last-most, free-later}
 use Rattle.cuts.proofs.Greedy.{carried, carries, greedy-best}
 use Rattle.created_frame.specs.declared.Builder.{Builder}
@@ -23,15 +21,15 @@ use Rattle.created_frame.specs.Built.{Ours, Built}
 use Rattle.created_frame.proofs.Built.{ours-built, built-length, built-read, built-payloads}
 use Rattle.spread.specs.declared.Spreading.{Spreading}
 use Rattle.spread.specs.declared.SpreadAnswer.the-variants.{Last, No}
-use Rattle.spread.specs.Row.{addressEnd, Run, stopped, rowFrom, lawful, freeIn, roomIn, padded, Outcome, done, no, spreadOf}
+use Rattle.spread.specs.Row.{addressEnd, Run, stopped, freeIn, roomIn, padded, Outcome, spreadOf}
 use Rattle.spread.specs.Laid.{laid, statesOf, newsOf, indexPast, Fitting}
-use Rattle.spread.specs.ReadBack.{frameOf, framesOf, readBack, joined, piecesOf, Back}
+use Rattle.spread.specs.ReadBack.{frameOf, framesOf, readBack}
 use Rattle.spread.specs.Theorem.{back, Carries, Spreads}
 use Rattle.spread.specs.Answers.{saidLast}
 use Rattle.spread.proofs.Laws.{Lawful, law, out, run, bounds, reaches, fits, Met, ways}
 use Rattle.spread.proofs.Going.{area-in}
 use Rattle.spread.proofs.Unique.{answer-unique}
-use Rattle.spread.proofs.Laid.{count-states, length-laid, laid-accepted, laid-back, laid-earlier}
+use Rattle.spread.proofs.Laid.{count-states, length-laid, laid-accepted, all-built, laid-back, laid-earlier}
 use Rattle.spread.proofs.Plan.{news-length, news-back, carriedBy, carried-whole, carried-pieces, carried-numbered, carried-count, fitting}
 use Rattle.spread.proofs.Greedy.{Laid, run-laid}
 
@@ -56,8 +54,9 @@ module _ (row : List ℕ) (size : ℕ) (first : Builder) (index command address 
       let rest : List ℕ = drop (lastArea 0 plan * size) row in
       let count : first .count ≡ length olds = h .count-is in
       let b : back size first r ≡ carriedBy command address image index plan =
-      rw (a, s, count) (laid-back size small 0 olds news rest news-fit
-      ∙ news-back command address image plan (lastArea 0 plan) 0 0 1 (lastArea 0 plan) index (p .chain) (rising-last 0 1 m plan (p .rising)) (omega arith) (omega arith)) in
+      ap (λ (z : ℕ). readBack 0 z (framesOf size (r .areas) (r .states))) count
+      ∙ rw (a, s) (laid-back size small 0 olds news rest news-fit)
+      ∙ news-back command address image plan (lastArea 0 plan) 0 0 1 (lastArea 0 plan) index (p .chain) (rising-last 0 1 m plan (p .rising)) (omega arith) (omega arith) in
       let f₀ : frameOf (take size row) first ≡ frameOf row first = rw (take-take (first .used) size row used-fits) refl in
       record {
         counted = ap length s ∙ count-states olds news ∙ news-length command address image (lastArea 0 plan) 0 index plan;
@@ -69,6 +68,7 @@ module _ (row : List ℕ) (size : ℕ) (first : Builder) (index command address 
         earlier = λ f fs e. rw count (laid-earlier size small olds news rest row first f fs news-fit (rw f₀ at (built-read olds (take size row) first h)) (rw f₀ at (built-payloads olds (take size row) first h)) (rw (a, s) at e));
         areas-are = a;
         states-are = s;
+        built = rw a (all-built size small olds news rest news-fit);
       }
 
 -- ---- the rule
@@ -153,7 +153,7 @@ module _ (row : List ℕ) (size : ℕ) (first : Builder) (index command address 
   -- ---- THE THEOREMS, of the rule
 
   -- an answer that is no refusal spreads the image
-  answered-built : (olds : List Pdu) (k : ℕ) → Built olds (take size row) first → told ≡ gives (k ∷ []) → Spreads row size first index command address image olds (out row size first index command address image .run) k
+  pub answered-built : (olds : List Pdu) (k : ℕ) → Built olds (take size row) first → told ≡ gives (k ∷ []) → Spreads row size first index command address image olds (out row size first index command address image .run) k
   answered-built olds k h =
       ways row size first index command address image (λ (o : Outcome). o .said ≡ gives (k ∷ []) → Spreads row size first index command address image olds (o .run) k)
       (λ p e. absurd (sized _ _ _ e)) (λ p q e. absurd (sized _ _ _ e)) (λ p q r e. absurd (sized _ _ _ e))
@@ -185,14 +185,18 @@ module _ (row : List ℕ) (size : ℕ) (first : Builder) (index command address 
   -- ---- THE THEOREMS, of the call: r is its result, and ys the row as it leaves it
 
   module _ (r : Spreading) (ys : List ℕ) (met : Met row size first index command address image r ys) where
-    pub call-spreads : (olds : List Pdu) (k : ℕ) → Ours olds (take size row) first → r .answer ≡ Last k
+    pub call-spreads-built : (olds : List Pdu) (k : ℕ) → Built olds (take size row) first → r .answer ≡ Last k
         → Spreads row size first index command address image olds (record { areas = ys; states = take k (r .states); next = r .next }) k
     unfolding padded
-    call-spreads olds k o e =
-        let s = answered olds k o (sym (met .0) ∙ ap saidLast e) in
+    call-spreads-built olds k h e =
+        let s = answered-built olds k h (sym (met .0) ∙ ap saidLast e) in
         let l : length (out row size first index command address image .run .states) ≡ k = s .carries .counted ∙ ap (lastArea 0) (sym (s .carries .plan)) ∙ s .last in
         let t : take k (r .states) ≡ out row size first index command address image .run .states = ap (take k) (met .1 .0 .0) ∙ take-at _ _ k l in
         rw (t, met .1 .0 .1, met .1 .1) s
+
+    pub call-spreads : (olds : List Pdu) (k : ℕ) → Ours olds (take size row) first → r .answer ≡ Last k
+        → Spreads row size first index command address image olds (record { areas = ys; states = take k (r .states); next = r .next }) k
+    call-spreads olds k o = call-spreads-built olds k (ours-built o)
 
     pub call-refused : (x : Refusal) → r .answer ≡ No x → (r .states ≡ padded []) × (r .next ≡ index) × (ys ≡ row)
     call-refused x e =

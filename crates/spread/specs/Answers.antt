@@ -1,6 +1,6 @@
 -- The answer on paper: document 01's number and values for each case. Definitions only.
 use Prim.Native.Nat.{ℕ}
-use mathlib.Core.List.{List, [], _∷_}
+use mathlib.Core.List.{[], _∷_}
 use lib.ListN.{getD}
 use Rattle.refusal.specs.Said.{Said, gives, absent, refuses, saidOf}
 use Rattle.spread.specs.declared.SpreadAnswer.{SpreadAnswer}

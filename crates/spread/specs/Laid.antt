@@ -8,7 +8,7 @@ use Rattle.pdu.specs.Pdu.{Pdu, layout, lastAt, AllFit}
 use Rattle.cuts.specs.Cut.{Piece}
 use Rattle.created_frame.specs.declared.Builder.{Builder}
 use Rattle.created_frame.specs.Frame.{after}
-use Rattle.created_frame.specs.Built.{made}
+use Rattle.created_frame.specs.Built.{made, Built}
 
 -- ---- areas by their PDUs
 
@@ -34,6 +34,11 @@ statesOf olds (ps ∷ pss) = stateOf (olds ++ ps) ∷ statesOf [] pss
 unfoldable pub Fitting : ℕ → List Pdu → List (List Pdu) → Type 0
 Fitting size olds [] = Unit {0}
 Fitting size olds (ps ∷ pss) = (length (layout (olds ++ ps)) ≤ size) × AllFit (olds ++ ps) × Fitting size [] pss
+
+-- each area is one of our builder's, into which more can be pushed
+unfoldable pub AllBuilt : ℕ → List Pdu → List (List Pdu) → List ℕ → Type 0
+AllBuilt size olds [] row = Unit {0}
+AllBuilt size olds (ps ∷ pss) row = Built (olds ++ ps) (take size row) (stateOf (olds ++ ps)) × AllBuilt size [] pss (drop size row)
 
 -- ---- the PDUs of a plan
 

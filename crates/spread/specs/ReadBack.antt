@@ -1,11 +1,11 @@
 -- What the frame reader finds in the areas of a row, as they stand. Definitions only.
 use mathlib.Core.Path.{_≡_}
-use Prim.Native.Nat.{ℕ, zero, suc, _+_}
+use Prim.Native.Nat.{ℕ, suc, _+_}
 use mathlib.Core.List.{List, [], _∷_, _++_, map}
 use lib.ListN.{length, take, drop}
 use Rattle.pdu.specs.declared.PduFields.{PduFields}
 use Rattle.pdu.specs.Pdu.{frameHeader}
-use Rattle.pdu.specs.Read.{Reading, refused, read, readOf, payloadOf, withMore}
+use Rattle.pdu.specs.Read.{refused, read, readOf, pdusOf, payloadOf, withMore}
 use Rattle.cuts.specs.Cut.{Piece}
 use Rattle.created_frame.specs.declared.Builder.{Builder}
 use Rattle.created_frame.specs.Frame.{after}
@@ -22,12 +22,8 @@ framesOf size row [] = []
 framesOf size row (b ∷ bs) = frameOf row b ∷ framesOf size (drop size row) bs
 
 -- the fields of the PDUs that are read; none where the frame is refused
-abbrev pub fieldsOf : Reading → List PduFields
-fieldsOf refused = []
-fieldsOf (read vs) = vs
-
 abbrev pub fieldsIn : List ℕ → List PduFields
-fieldsIn f = fieldsOf (readOf f)
+fieldsIn f = pdusOf (readOf f)
 
 -- the reader accepts each frame
 unfoldable pub AllRead : List (List ℕ) → Type 0

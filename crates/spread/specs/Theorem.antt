@@ -1,14 +1,14 @@
 -- Demand 3: what a spreading is that is not refused. Definitions only.
 use mathlib.Core.Path.{_≡_}
-use Prim.Native.Nat.{ℕ, suc, _+_, _*_, _-_, _/_, _≤_}
-use mathlib.Core.List.{List, [], _∷_, _++_}
-use lib.ListN.{length, take, drop}
+use Prim.Native.Nat.{ℕ, _*_, _/_, _≤_}
+use mathlib.Core.List.{List, _∷_, _++_}
+use lib.ListN.{length, drop}
 use Rattle.pdu.specs.Pdu.{Pdu}
 use Rattle.cuts.specs.Cut.{Piece, Permitted, lastArea}
 use Rattle.cuts.specs.Greedy.{greedy}
 use Rattle.created_frame.specs.declared.Builder.{Builder}
 use Rattle.spread.specs.Row.{Run, freeIn}
-use Rattle.spread.specs.Laid.{laid, statesOf, newsOf, indexPast}
+use Rattle.spread.specs.Laid.{laid, statesOf, AllBuilt, newsOf, indexPast}
 use Rattle.spread.specs.ReadBack.{frameOf, framesOf, AllRead, Back, readBack, joined, piecesOf, Numbered, StillThere}
 
 -- the new PDUs of a run, as they are read back from the areas as they stand
@@ -33,6 +33,8 @@ pub record Carries (row : List ℕ) (size : ℕ) (first : Builder) (index comman
   -- byte by byte: the areas up to the last hold their PDUs and zeros, and those past it aren't touched; the states are the builder's
   pub areas-are : run .areas ≡ laid size olds (newsOf command address image (lastArea 0 pieces) 0 index pieces) ++ drop (lastArea 0 pieces * size) row
   pub states-are : run .states ≡ statesOf olds (newsOf command address image (lastArea 0 pieces) 0 index pieces)
+  -- each of them is again as our builder leaves one
+  pub built : AllBuilt size olds (newsOf command address image (lastArea 0 pieces) 0 index pieces) (run .areas)
 
 -- `run` spreads the image over the row; the last area's number is k
 pub record Spreads (row : List ℕ) (size : ℕ) (first : Builder) (index command address : ℕ) (image : List ℕ) (olds : List Pdu) (run : Run) (k : ℕ) : Type 0 where

@@ -1,4 +1,4 @@
--- Document 01's bench cases of strings, and the points of order around them and around names, by computing the definitions.
+-- Points of order of strings and of names, by computing the definitions. The bench cases stand in the crate `bench`.
 use Prim.Native.Nat.{ℕ}
 use mathlib.Core.Path.{_≡_, refl}
 use mathlib.Core.List.{List, [], _∷_, _++_}
@@ -17,10 +17,6 @@ unfoldable pub twoStrings : List ℕ
 twoStrings = replicate 128 0 ++ (10 ∷ 0 ∷ 4 ∷ 0 ∷ 2 ∷ 3 ∷ 65 ∷ 0 ∷ 181 ∷ 1 ∷ 66 ∷ 0 ∷ [])
 
 pub record Cases : Type 0 where
-  pub first : stringSaid twoStrings 1 3 ≡ gives (65 ∷ 63 ∷ [])
-  pub second : stringSaid twoStrings 2 3 ≡ gives (66 ∷ [])
-  pub third : stringSaid twoStrings 3 3 ≡ gives []
-  pub fourth : stringSaid twoStrings 4 3 ≡ absent
   -- the stored length is counted before zeros are dropped
   pub long : stringSaid twoStrings 1 2 ≡ refuses 4 (2 ∷ 3 ∷ [])
   pub zero : stringSaid twoStrings 0 3 ≡ absent
@@ -33,7 +29,7 @@ pub cases : Cases
 unfolding
     twoStrings on2 on3 byteAt span overlay within fine newSaid byteIn byteSaid skipIn skipSaid among counted decided stepped searchOver searchFrom searched categorySaid
     stringPast passedOne passed fitted stringHere stringBehind stringIn soughtAt ascii shown textSaid fits bounded textFor stringSaid lengthSaid roomAfter
-cases = record { first = refl; second = refl; third = refl; fourth = refl; long = refl; zero = refl; wide = refl; kept = refl }
+cases = record { long = refl; zero = refl; wide = refl; kept = refl }
 
 -- General of so many words, with order index 1, name index 2 and these flags, then the strings
 unfoldable pub named : ℕ → ℕ → List ℕ

@@ -98,7 +98,8 @@ filled-tail s i n m buf whole part w p =
 
 -- ---- a list laid over another
 
-front : (xs : List ℕ) (at : ℕ) (ys : List ℕ) → at + length ys ≤ length xs → length (take at xs ++ ys) ≡ at + length ys
+-- what stands before the end of what is laid
+pub front : (xs : List ℕ) (at : ℕ) (ys : List ℕ) → at + length ys ≤ length xs → length (take at xs ++ ys) ≡ at + length ys
 front xs at ys h = simp (length-append, length-take) (omega arith)
 
 pub length-overlay : (xs : List ℕ) (at : ℕ) (ys : List ℕ) → at + length ys ≤ length xs → length (overlay xs at ys) ≡ length xs

@@ -1,7 +1,5 @@
 -- `general` makes not found a refusal.
-use mathlib.Core.Path.{ap, sym, _∙_}
 use Rattle.sii.specs.General.{generalSaid, needed}
-use Rattle.sii.specs.Answers.{saidFound}
 use borrow.Author.Needs.{needs}
 use Rattle.sii.proofs.general.Statement.{statement}
 use Rattle.sii.proofs.general.Tie as tie

@@ -1,6 +1,6 @@
 -- `spread::carry` pushes into the first area, then opens and fills one after the other: what is done and what is left are the whole run (Going.antt).
 use borrow.Author.Needs.{needs}
-use mathlib.Core.Path.{_≡_, refl}
+use mathlib.Core.Path.{refl}
 use Prim.Native.Nat.{_+_, _-_, _≤_, _<_}
 use native.Mathlib.Omega.{arith}
 use lib.ListN.{length, take, set}

@@ -8,7 +8,7 @@ use native.Mathlib.Omega.{arith}
 use lib.ListN.{length}
 use Rattle.refusal.specs.declared.Refusal.the-variants.{Address, NoRoom, BadArgument}
 use Rattle.spread.specs.Row.{lawful, roomIn, addressEnd}
-use Rattle.spread.proofs.Laws.{Lawful, law, reaches, fits, refused-14, refused-1, refused-13, is-done, met-done, met-no}
+use Rattle.spread.proofs.Laws.{Lawful, law, reaches, refused-14, refused-1, refused-13, is-done, met-done, met-no}
 use Rattle.spread.proofs.spread.Statement.{statement}
 use Rattle.spread.proofs.spread.Tie as tie
 

@@ -2,7 +2,7 @@
 use mathlib.Core.Path.{ap, sym, _∙_}
 use borrow.Author.Needs.{needs}
 use Rattle.eeprom.specs.Answers.{saidRange}
-use Rattle.category.proofs.On.{on2-gives, on2-refuses}
+use Rattle.refusal.proofs.On.{on2-gives, on2-refuses}
 use Rattle.strings.specs.Strings.{stringBehind}
 use Rattle.strings.proofs.behind.Statement.{statement}
 use Rattle.strings.proofs.behind.Tie as tie

@@ -2,7 +2,7 @@
 use mathlib.Core.Path.{ap, sym, _∙_}
 use borrow.Author.Needs.{needs}
 use Rattle.eeprom.specs.Answers.{saidByte}
-use Rattle.category.proofs.On.{on3-refuses}
+use Rattle.refusal.proofs.On.{on3-refuses}
 use Rattle.strings.specs.Strings.{stringIn}
 use Rattle.strings.proofs.Laws.{in-absent, in-behind}
 use Rattle.strings.proofs.in_strings.Statement.{statement}

@@ -2,7 +2,7 @@
 use mathlib.Core.Path.{ap, sym, _∙_}
 use borrow.Author.Needs.{needs}
 use Rattle.eeprom.specs.Answers.{saidByte}
-use Rattle.category.proofs.On.{on3-gives, on3-refuses}
+use Rattle.refusal.proofs.On.{on3-gives, on3-refuses}
 use Rattle.strings.specs.Strings.{passedOne}
 use Rattle.strings.proofs.pass_one.Statement.{statement}
 use Rattle.strings.proofs.pass_one.Tie as tie

@@ -3,7 +3,7 @@ use mathlib.Core.Path.{ap, sym, _∙_}
 use borrow.Author.Needs.{needs}
 use Rattle.refusal.proofs.Tests.{tests}
 use Rattle.category.specs.Answers.{saidFound}
-use Rattle.category.proofs.On.{on2-gives, on2-absent, on2-refuses}
+use Rattle.refusal.proofs.On.{on2-gives, on2-absent, on2-refuses}
 use Rattle.strings.specs.Strings.{soughtAt}
 use Rattle.strings.proofs.Laws.{sought-on}
 use Rattle.strings.proofs.sought.Statement.{statement}

@@ -1,41 +1,29 @@
--- The lengths of the words, and 9 bytes around them.
+-- The lengths of the words, and 9 bytes around them (length-text).
 use borrow.Author.Needs.{needs}
 use Rattle.ports.proofs.Words.{length-text}
 use Rattle.ports.proofs.text.text_len.Statement.{statement}
 use Rattle.ports.proofs.text.text_len.Tie as tie
 
-port-at-requires : tie.Need-port-at-requires
-port-at-requires c κs = search needs
-
 word-len-requires : tie.Need-word-len-requires
 word-len-requires c κs = search needs
-
-port-at-requires-2 : tie.Need-port-at-requires-2
-port-at-requires-2 c κs = search needs
-
-word-len-requires-2 : tie.Need-word-len-requires-2
-word-len-requires-2 c κs = search needs
-
-port-at-requires-3 : tie.Need-port-at-requires-3
-port-at-requires-3 c κs = search needs
-
-word-len-requires-3 : tie.Need-word-len-requires-3
-word-len-requires-3 c κs = search needs
-
-port-at-requires-4 : tie.Need-port-at-requires-4
-port-at-requires-4 c κs = search needs
-
-word-len-requires-4 : tie.Need-word-len-requires-4
-word-len-requires-4 c κs = search needs
 
 add-result : tie.Need-add-result
 add-result c = search needs
 
+word-len-requires-2 : tie.Need-word-len-requires-2
+word-len-requires-2 c κs = search needs
+
 add-result-2 : tie.Need-add-result-2
 add-result-2 c = search needs
 
+word-len-requires-3 : tie.Need-word-len-requires-3
+word-len-requires-3 c κs = search needs
+
 add-result-3 : tie.Need-add-result-3
 add-result-3 c = search needs
+
+word-len-requires-4 : tie.Need-word-len-requires-4
+word-len-requires-4 c κs = search needs
 
 add-result-4 : tie.Need-add-result-4
 add-result-4 c = search needs
@@ -44,23 +32,19 @@ add-result-5 : tie.Need-add-result-5
 add-result-5 c = search needs
 
 returns : tie.Need-returns
-returns c = rw (c .before .before .before .before .before .before .word-len .ensures .0, c .before .before .before .before .before .before .before .port-at .ensures, c .before .before .before .before .word-len2 .ensures .0, c .before .before .before .before .before .port-at2 .ensures, c .before .before .word-len3 .ensures .0, c .before .before .before .port-at3 .ensures, c .word-len4 .ensures .0, c .before .port-at4 .ensures) (length-text (c .before .before .before .before .before .before .before .before .args .p))
+returns c = rw (c .before .before .before .word-len .ensures .0, c .before .before .word-len2 .ensures .0, c .before .word-len3 .ensures .0, c .word-len4 .ensures .0) (length-text (c .before .before .before .before .args .p))
 
 pub text-len-spec : {M : Type 1} → statement M
 text-len-spec =
     tie.close
     (tie.spec
-    port-at-requires
     word-len-requires
-    port-at-requires-2
-    word-len-requires-2
-    port-at-requires-3
-    word-len-requires-3
-    port-at-requires-4
-    word-len-requires-4
     add-result
+    word-len-requires-2
     add-result-2
+    word-len-requires-3
     add-result-3
+    word-len-requires-4
     add-result-4
     add-result-5
     returns)

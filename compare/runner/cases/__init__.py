@@ -1,0 +1,47 @@
+"""The requests, by topic. All follow from the seed.
+
+A topic has `small()`, all its small cases and its boundaries, and `some(rng)`,
+a handful of random requests that belong together. The independent program is
+used as a library, so that a request can go on from the answer before it.
+"""
+
+import random
+
+from . import frames, malformed, ports, ranges, sii, spread, strings
+
+# Each topic with its share of the requests, in hundredths.
+TOPICS = (
+    (ranges, 16),
+    (sii, 22),
+    (strings, 16),
+    (ports, 14),
+    (frames, 18),
+    (spread, 8),
+    (malformed, 6),
+)
+
+
+def requests(count, seed, notes=None):
+    """About `count` request lines. `notes` is told what share of the small
+    cases was taken."""
+    for topic, share in TOPICS:
+        yield from of_topic(topic, -(-count * share // 100), seed, notes)
+
+
+def of_topic(topic, wanted, seed, notes=None):
+    name = topic.__name__.rpartition(".")[2]
+    rng = random.Random(f"{seed} {name}")
+    small = list(topic.small())
+    taken = min(len(small), wanted // 2)
+    if notes is not None:
+        notes.append(f"{name} {taken} of {len(small)}")
+    # Where there is no room for all and for random ones besides: a part.
+    yield from rng.sample(small, taken)
+    yield from random_ones(topic, rng, wanted - taken)
+
+
+def random_ones(topic, rng, wanted):
+    while wanted > 0:
+        for request in topic.some(rng):
+            yield request
+            wanted -= 1

@@ -1,0 +1,184 @@
+"""What is read out of an image, and the category search."""
+
+from ..request import line
+from . import images
+from .images import NAMED, category, image
+from .tools import CHUNKS, around, number, ramp
+
+READ_OUTS = ("alias", "size", "identity", "mailbox", "general", "sms",
+             "fmmus", "fmmuex")
+HOLDS = {"general": 30, "fmmus": 40, "sms": 41, "fmmuex": 42}
+
+
+def small():
+    yield from heads()
+    yield from largest()
+    yield from searches()
+    yield from lists()
+    yield from generals()
+
+
+def largest():
+    """As large as an image may be, and a byte more; in every call."""
+    for length in (65_536, 65_537):
+        data = bytes(128) + b"\x29\x00" + b"\xff\x00" * ((length - 130) // 2)
+        data += bytes(length - len(data))
+        for kind in READ_OUTS:
+            yield line(kind, data, 4)
+        yield line("category", data, 8, 41)
+        yield line("pdos", data, 8, 50)
+        yield line("string", data, 4, 0, b"\xa5")
+        yield line("string", data, 4, 1, b"\xa5")
+        yield line("name", data, 4, b"\xa5")
+        yield line("desc", data, 4, b"\xa5")
+        yield line("setalias", data, 1)
+        yield line("byte", data, 8, 65_534, 0)
+        yield line("read", data, 4, 65_530, 65_534, b"\xee" * 5)
+        yield line("exact", data, 4, 65_530, 65_534, b"\xee" * 5)
+        yield line("write", data, 65_532, 65_534, b"\xaa\xbb\xcc")
+
+
+def heads():
+    """Images that end within what is read, and every flag."""
+    for length in range(0, 131):
+        for kind in ("alias", "size", "identity", "mailbox"):
+            yield line(kind, ramp(length), CHUNKS[length % 2])
+    for protocols in range(256):
+        data = bytearray(ramp(128))
+        data[56] = protocols
+        yield line("mailbox", data, 4)
+    for size in around(0, 2, 255, 510, 511, 32_767, 65_535):
+        yield line("size", bytes(124) + images.word(size), 8)
+    for length in range(20):
+        for alias in (0, 1, 0x1234, 0xFFFF):
+            yield line("setalias", ramp(length), alias)
+
+
+def searches():
+    for length in around(128, 132):
+        for number_ in NAMED:
+            yield line("category", bytes(length), 4, number_)
+    for kind in around(*NAMED, 0, 20, 43, 65_535):
+        data = image(category(kind, b"\x01\x02"))
+        yield line("category", data, 8, kind)
+        yield line("category", data, 4, 10)
+    for count in range(28, 35):
+        for last in (b"", b"\x00\x00"):
+            data = image(category(0, b"") * count, category(10, last))
+            yield line("category", data, 4, 10)
+            yield line("category", data, 8, 30)
+    yield from long_categories()
+
+
+def long_categories():
+    """From word 0x42 on: past byte 65,535, past word 65,535."""
+    edges = around(0, 32_767 - 0x42, 32_768 - 0x42, 65_535 - 0x42 - 2,
+                   65_535 - 0x42, 65_535)
+    for length in edges:
+        for kind in (10, 0, 0xFFFF):
+            data = image(category(kind, b"", length), end=b"")
+            yield line("category", data, 4, 10)
+            yield line("string", data, 4, 1, b"\xa5")
+    for number_, kind in ((30, "general"), (41, "sms"), (40, "fmmus"),
+                          (42, "fmmuex")):
+        for found in (0, number_):
+            data = image(category(found, b"", 65_500), end=b"")
+            yield line(kind, data, 8)
+
+
+def lists():
+    for count in range(0, 11):
+        for cut in range(0, 9):
+            records = (ramp(6) + b"\x01\x02") * count + ramp(cut)
+            yield line("sms", image(category(41, records)), 4)
+    for value in range(256):
+        for place in (4, 6, 7):
+            record = bytearray(8)
+            record[place] = value
+            yield line("sms", image(category(41, record)), 8)
+        yield line("fmmus", image(category(40, bytes([value, 1]))), 4)
+    yield from limits()
+    yield from pdos()
+
+
+def limits():
+    """The last that has room, the first that has none, and a bad one there."""
+    for bad in (0x0F, 0x10):
+        for count in (7, 8, 9, 10):
+            record = bytes(6) + bytes([bad, 1])
+            records = bytes(8) * (count - 1) + record
+            yield line("sms", image(category(41, records)), 4)
+    for count in range(14, 20):
+        for bad in (1, 4):
+            usages = bytes(count - 1) + bytes([bad])
+            yield line("fmmus", image(category(40, usages)), 8)
+        for cut in range(3):
+            records = ramp(3 * count + cut)
+            yield line("fmmuex", image(category(42, records)), 4)
+
+
+def pdos():
+    for entries in range(5):
+        for there in range(0, 8 * entries + 9, 2):
+            record = bytes([0, 26, entries, 3, 0, 0, 0, 0])
+            data = image(category(50, record + ramp(there)))
+            yield line("pdos", data, CHUNKS[there // 2 % 2], 50)
+            yield line("pdos", data, 4, 51)
+    for count in (63, 64, 65, 66):
+        for last in (0, 1):
+            records = bytes(8) * (count - 1) + bytes([0, 0, last, 0]) + bytes(4)
+            yield line("pdos", image(category(51, records)), 8, 51)
+    many = bytes([0, 26, 255, 0, 0, 0, 0, 0]) + b"\xff" * (8 * 255)
+    yield line("pdos", image(category(50, many)), 4, 50)
+
+
+def generals():
+    base = bytes(18)
+    for place in range(18):
+        for value in (1, 2, 4, 5, 0x10, 0x1F, 0x20, 0x3F, 0x40, 0x80, 0xFF):
+            record = bytearray(base)
+            record[place] = value
+            yield line("general", image(category(30, record)), 4)
+    for length in range(0, 24, 2):
+        yield line("general", image(category(30, bytes(length)), end=b""), 8)
+        yield line("general", image(category(30, bytes(length), 9),
+                                    end=b""), 8)
+
+
+def some(rng):
+    """Questions to one image."""
+    kinds = rng.sample(READ_OUTS, 4)
+    direction = rng.choice((50, 51))
+    # What is asked for is mostly there.
+    data = any_image(rng, [HOLDS[kind] for kind in kinds if kind in HOLDS]
+                     + [direction])
+    tall = len(data) > 60_000
+    for kind in kinds[:1 if tall else 4]:
+        yield line(kind, data, rng.choice(CHUNKS))
+    for _ in range(1 if tall else 2):
+        yield line("category", data, rng.choice(CHUNKS), sought(rng))
+    yield line("pdos", data, rng.choice(CHUNKS), direction)
+    if not tall or rng.random() < 0.2:
+        yield line("setalias", data[:rng.choice((14, 15, 16, 40, 70_000))],
+                   number(rng))
+
+
+def any_image(rng, wanted):
+    pick = rng.random()
+    if pick < 0.62:
+        return images.built(rng, wanted)
+    if pick < 0.88:
+        return images.damaged(rng, images.built(rng, wanted))
+    if pick < 0.93:
+        return images.jumping(rng)
+    if pick < 0.979:
+        return images.ending_high(rng)
+    if pick < 0.999:
+        return rng.randbytes(rng.randint(0, 300))
+    return images.tall(rng)
+
+
+def sought(rng):
+    if rng.random() < 0.9:
+        return rng.choice(NAMED)
+    return images.other_kind(rng)

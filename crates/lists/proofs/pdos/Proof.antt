@@ -1,0 +1,72 @@
+-- `pdos` lists the range that the search found.
+use mathlib.Core.Path.{ap, sym, _∙_}
+use Rattle.category.specs.Answers.{saidFound}
+use Rattle.lists.specs.Records.{back}
+use Rattle.lists.specs.Pdos.{pdoZero, pdoMost, pdosOf}
+use Rattle.lists.specs.Answers.{backPdos}
+use Rattle.lists.proofs.Laws.{refused, empty, in-at, in-absent, in-no}
+use borrow.Author.Needs.{needs}
+use Rattle.lists.proofs.pdos.Statement.{statement}
+use Rattle.lists.proofs.pdos.Tie as tie
+
+category-requires : tie.Need-category-requires
+category-requires c κs = search needs
+
+enum-known-g : tie.Need-enum-known-g
+enum-known-g c = search needs
+
+cast-pdos-in : tie.Need-cast-pdos-in
+cast-pdos-in c = search needs
+
+cast-pdos-in-2 : tie.Need-cast-pdos-in-2
+cast-pdos-in-2 c = search needs
+
+pdos-in-requires : tie.Need-pdos-in-requires
+pdos-in-requires c κs = search needs
+
+enum-told : tie.Need-enum-told
+enum-told c = search needs
+
+no-pdos-requires : tie.Need-no-pdos-requires
+no-pdos-requires c κs = search needs
+
+enum-known-x : tie.Need-enum-known-x
+enum-known-x c = search needs
+
+no-pdos-requires-2 : tie.Need-no-pdos-requires-2
+no-pdos-requires-2 c κs = search needs
+
+returns : tie.Need-returns
+unfolding pdosOf
+returns c =
+    let f = ap saidFound (sym (c .before .before .before .before .g .given .1)) ∙ c .before .before .before .before .before .before .category .ensures in
+    c .pdos-in .ensures ∙ ap (back pdoZero pdoMost) (in-at _ _ _ _ f)
+
+returns-2 : tie.Need-returns-2
+unfolding pdosOf
+returns-2 c =
+    let f = ap saidFound (sym (c .before .enum-told .given .1)) ∙ c .before .before .before .category .ensures in
+    ap backPdos (c .no-pdos .ensures) ∙ empty _ _ _ (in-absent _ _ f)
+
+returns-3 : tie.Need-returns-3
+unfolding pdosOf
+returns-3 c =
+    let f = ap saidFound (sym (c .before .before .x .given .1)) ∙ c .before .before .before .before .category .ensures in
+    ap backPdos (c .no-pdos2 .ensures) ∙ refused _ _ _ _ _ (in-no _ _ _ _ f)
+
+pub pdos-spec : {M : Type 1} → statement M
+pdos-spec =
+    tie.close
+    (tie.spec
+    category-requires
+    enum-known-g
+    cast-pdos-in
+    cast-pdos-in-2
+    pdos-in-requires
+    enum-told
+    no-pdos-requires
+    enum-known-x
+    no-pdos-requires-2
+    returns
+    returns-2
+    returns-3)

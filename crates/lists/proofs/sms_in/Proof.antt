@@ -1,0 +1,99 @@
+-- `sms_in` fills place after place: the records so far and what the rest lists are the whole list.
+use borrow.Author.Needs.{needs}
+use Prim.Native.Nat.{_≤_, _-_}
+use mathlib.Core.Path.{ap, sym, _∙_}
+use native.Mathlib.Omega.{arith}
+use Rattle.lists.specs.SyncManagers.{smAt, smZero, smMost}
+use Rattle.lists.specs.Answers.{itemSm, backSms}
+use Rattle.lists.proofs.Laws.{Going, going-start, going-more, going-none, going-bad, going-full, refused}
+use Rattle.lists.proofs.Reading.{sm-moves}
+use Rattle.lists.proofs.sms_in.Statement.{statement}
+use Rattle.lists.proofs.sms_in.Tie as tie
+
+abbrev Inv-loop : tie.InvT-loop
+Inv-loop image chunk start end items₀ count₀ at₀ items count at = (at ≤ 1000000) × Going (smAt image end) smZero smMost start items count at
+
+abbrev μ-loop : tie.MeasureT-loop
+μ-loop image chunk start end items₀ count₀ at₀ items count at = smMost - count
+
+no-sms-requires : tie.Need-no-sms-requires Inv-loop μ-loop
+no-sms-requires c κs = search needs
+
+loop-holds : tie.Need-loop-holds Inv-loop μ-loop
+loop-holds c = (c .before .before .before .pre .0, rw (c .before .no-sms .ensures) (going-start _ _ _ _))
+
+sm-item-requires : tie.Need-sm-item-requires Inv-loop μ-loop
+sm-item-requires c κs = search needs
+
+enum-known-sm : tie.Need-enum-known-sm Inv-loop μ-loop
+enum-known-sm c = search needs
+
+mul-items : tie.Need-mul-items Inv-loop μ-loop
+mul-items c = search needs
+
+array-set-from-items : tie.Need-array-set-from-items Inv-loop μ-loop
+array-set-from-items c = search needs
+
+add-count : tie.Need-add-count Inv-loop μ-loop
+add-count c = search needs
+
+loop-less : tie.Need-loop-less Inv-loop μ-loop
+loop-less c = search needs
+
+loop-again : tie.Need-loop-again Inv-loop μ-loop
+loop-again c =
+    let l = c .before .before .before .before .before .loop in
+    let p = ap itemSm (sym (c .before .before .sm .given .1)) ∙ c .before .before .before .before .sm-item .ensures in
+    (omega (arith, sm-moves _ _ _ _ _ p), going-more _ _ _ _ _ _ _ (l .inv .1) _ _ p (search needs))
+
+no-sms-requires-2 : tie.Need-no-sms-requires-2 Inv-loop μ-loop
+no-sms-requires-2 c κs = search needs
+
+returns : tie.Need-returns Inv-loop μ-loop
+returns c =
+    let l = c .before .before .before .before .before .before .loop in
+    let p = ap itemSm (sym (c .before .before .before .sm .given .1)) ∙ c .before .before .before .before .before .sm-item .ensures in
+    ap backSms (c .no-sms2 .ensures) ∙ refused _ _ _ _ _ (going-full _ _ _ _ _ _ _ (l .inv .1) _ _ p (c .before .if1 .left))
+
+enum-told : tie.Need-enum-told Inv-loop μ-loop
+enum-told c = search needs
+
+returns-2 : tie.Need-returns-2 Inv-loop μ-loop
+returns-2 c =
+    let l = c .before .before .before .loop in
+    going-none _ _ _ _ _ _ _ (l .inv .1) (ap itemSm (sym (c .enum-told .given .1)) ∙ c .before .before .sm-item .ensures)
+
+enum-told-2 : tie.Need-enum-told-2 Inv-loop μ-loop
+enum-told-2 c = search needs
+
+no-sms-requires-3 : tie.Need-no-sms-requires-3 Inv-loop μ-loop
+no-sms-requires-3 c κs = search needs
+
+returns-3 : tie.Need-returns-3 Inv-loop μ-loop
+returns-3 c =
+    let l = c .before .before .before .before .loop in
+    let p = ap itemSm (sym (c .before .enum-told2 .given .1)) ∙ c .before .before .before .sm-item .ensures in
+    ap backSms (c .no-sms3 .ensures) ∙ refused _ _ _ _ _ (going-bad _ _ _ _ _ _ _ (l .inv .1) p)
+
+pub sms-in-spec : {M : Type 1} → statement M
+sms-in-spec =
+    tie.close
+    (tie.spec
+    Inv-loop
+    μ-loop
+    no-sms-requires
+    loop-holds
+    sm-item-requires
+    enum-known-sm
+    mul-items
+    array-set-from-items
+    add-count
+    loop-less
+    loop-again
+    no-sms-requires-2
+    returns
+    enum-told
+    returns-2
+    enum-told-2
+    no-sms-requires-3
+    returns-3)

@@ -1,0 +1,71 @@
+-- Sync managers as the SII lists them. Definitions only.
+use Prim.Native.Nat.{ℕ, _+_, _/_, _%_}
+use mathlib.Core.List.{List}
+use mathlib.Core.Bool.{Bool, false}
+use lib.Dec.{leb, ltb, eqb}
+use Rattle.refusal.specs.Said.{pick}
+use Rattle.category.specs.Numbers as numbers
+use Rattle.category.specs.Category.{categorySaid}
+use Rattle.sii.specs.Layout.{field}
+use Rattle.sii.specs.General.{listed}
+use Rattle.lists.specs.Layout.{smBytes, physicalStartAddress, smLength, controlRegister, enableSyncM, enableBelow, syncMType}
+use Rattle.lists.specs.Records.{Item, one, none, bad, Listed, records, inCategory}
+use Rattle.lists.specs.declared.SyncManager.{SyncManager}
+
+-- document 01's limit
+abbrev pub smMost : ℕ
+smMost = 8
+
+-- the mode: buffered (0, the default) or mailbox (2)
+unfoldable pub modeOf : ℕ → ℕ
+modeOf control = pick (eqb (control % 4) 2) 2 0
+
+-- the direction: the MainDevice reads (0, the default) or writes (1)
+abbrev pub directionOf : ℕ → ℕ
+directionOf control = listed 1 (control / 4 % 4)
+
+-- a flag of the control register, by the value of its bit
+abbrev pub flagOf : ℕ → ℕ → Bool
+flagOf control value = eqb (control / value % 2) 1
+
+-- the usage: unknown (0, the default), mailbox out, mailbox in, process data out, process data in
+abbrev pub usageType : ℕ → ℕ
+usageType n = listed 4 n
+
+unfoldable pub smOf : List ℕ → ℕ → SyncManager
+smOf image p = record {
+  «start_addr» = field image p physicalStartAddress;
+  «length_bytes» = field image p smLength;
+  «operation_mode» = modeOf (field image p controlRegister);
+  direction = directionOf (field image p controlRegister);
+  «ecat_event_enable» = flagOf (field image p controlRegister) 16;
+  «dls_user_event_enable» = flagOf (field image p controlRegister) 32;
+  «watchdog_enable» = flagOf (field image p controlRegister) 64;
+  enable = field image p enableSyncM;
+  «usage_type» = usageType (field image p syncMType);
+}
+
+-- no undefined bit stands in the enable byte
+abbrev pub smAdmits : SyncManager → Bool
+smAdmits sm = ltb (sm .enable) enableBelow
+
+-- what stands at p of a category that ends at end
+unfoldable pub smAt : List ℕ → ℕ → ℕ → Item SyncManager
+smAt image end p = pick (leb (p + smBytes) end) (pick (smAdmits (smOf image p)) (one (smOf image p) (p + smBytes)) bad) none
+
+unfoldable pub smsOf : List ℕ → Listed SyncManager
+smsOf image = inCategory (categorySaid image numbers.syncManagers) (λ p end. records (smAt image end) smMost p)
+
+-- what a place of the list holds that is not used
+abbrev pub smZero : SyncManager
+smZero = record {
+  «start_addr» = 0;
+  «length_bytes» = 0;
+  «operation_mode» = 0;
+  direction = 0;
+  «ecat_event_enable» = false;
+  «dls_user_event_enable» = false;
+  «watchdog_enable» = false;
+  enable = 0;
+  «usage_type» = 0;
+}

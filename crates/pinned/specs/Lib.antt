@@ -1,0 +1,10 @@
+pub mod Pinned
+pub mod Bytes
+pub mod Eeprom
+pub mod ReadOut
+pub mod Ports
+pub mod Frames
+pub mod Lines
+pub mod Held
+pub mod Table
+pub mod Widths
