@@ -2,6 +2,7 @@
 mod input;
 mod numbers;
 mod on_frames;
+mod on_lists;
 mod on_ports;
 mod on_range;
 mod on_sii;

@@ -2,6 +2,7 @@
 use crate::numbers::front;
 use crate::numbers::front_mut;
 use crate::on_frames;
+use crate::on_lists;
 use crate::on_ports;
 use crate::on_range;
 use crate::on_sii;
@@ -23,6 +24,8 @@ const PORTS: u8 = 4;
 const FRAMES: u8 = 5;
 
 const SPREADING: u8 = 6;
+
+const LISTS: u8 = 7;
 
 struct Request {
     topic: u8,
@@ -50,6 +53,13 @@ fn asked(name: u64) -> Request {
         return Request {
             topic: STRINGS,
             shape: strings,
+        };
+    }
+    let lists = on_lists::shape(name);
+    if lists != 0 {
+        return Request {
+            topic: LISTS,
+            shape: lists,
         };
     }
     let ports = on_ports::shape(name);
@@ -85,6 +95,7 @@ fn act(
         RANGE => on_range::answer(name, nums, first, second, row),
         SII => on_sii::answer(name, nums, first, row),
         STRINGS => on_strings::answer(name, nums, first, second, row),
+        LISTS => on_lists::answer(name, nums, first, row),
         PORTS => on_ports::answer(name, nums, first, row),
         FRAMES => on_frames::answer(name, nums, first, second, row),
         _ => on_spread::answer(nums, first, second, row),
