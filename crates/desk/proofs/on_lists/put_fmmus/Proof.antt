@@ -1,0 +1,65 @@
+-- `desk::on_lists::put_fmmus` is safe and ends: the row keeps its length, and the records that are left fall.
+use mathlib.Core.Path.{_≡_}
+use borrow.Author.Needs.{needs}
+use lib.ListN.{length}
+use Prim.Native.Nat.{_-_}
+use Rattle.desk.proofs.on_lists.put_fmmus.Statement.{statement}
+use Rattle.desk.proofs.on_lists.put_fmmus.Tie as tie
+use Rattle.desk.proofs.on_lists.put_fmmus.Reads as reads
+use Rattle.desk.proofs.on_lists.put_fmmus.Lts as lts
+use Rattle.desk.proofs.numbers.put.Reads as put-reads
+use Rattle.desk.proofs.numbers.wide8.Reads as wide8-reads
+use Rattle.wire.proofs.lesser.Reads as lesser-reads
+
+abbrev Inv-loop : tie.InvT-loop
+Inv-loop row₀ k n fmmus count j₀ i₀ row j i = length row ≡ length row₀
+
+abbrev μ-loop : tie.MeasureT-loop
+μ-loop row₀ k n fmmus count j₀ i₀ row j i = count - i
+
+lesser-requires : tie.Need-lesser-requires Inv-loop μ-loop
+lesser-requires c κs = search needs
+
+loop-holds : tie.Need-loop-holds Inv-loop μ-loop
+loop-holds c = search needs
+
+array-read-wide8 : tie.Need-array-read-wide8 Inv-loop μ-loop
+array-read-wide8 c = search needs
+
+wide8-requires : tie.Need-wide8-requires Inv-loop μ-loop
+wide8-requires c κs = search needs
+
+put-requires : tie.Need-put-requires Inv-loop μ-loop
+put-requires c κs = search needs
+
+add-i : tie.Need-add-i Inv-loop μ-loop
+add-i c = search needs
+
+loop-less : tie.Need-loop-less Inv-loop μ-loop
+loop-less c = search needs
+
+loop-again : tie.Need-loop-again Inv-loop μ-loop
+loop-again c = search needs
+
+same-length : tie.Need-same-length Inv-loop μ-loop
+same-length c = search needs
+
+returns : tie.Need-returns Inv-loop μ-loop
+returns c = search needs
+
+pub put-fmmus-spec : {M : Type 1} → statement M
+put-fmmus-spec =
+    tie.close
+    (tie.spec
+    Inv-loop
+    μ-loop
+    lesser-requires
+    loop-holds
+    array-read-wide8
+    wide8-requires
+    put-requires
+    add-i
+    loop-less
+    loop-again
+    same-length
+    returns)

@@ -1,0 +1,64 @@
+-- `desk::on_lists::put_sms` is safe and ends: the row keeps its length, and the records that are left fall.
+use mathlib.Core.Path.{_≡_}
+use borrow.Author.Needs.{needs}
+use lib.ListN.{length}
+use Prim.Native.Nat.{_-_}
+use Rattle.desk.proofs.on_lists.put_sms.Statement.{statement}
+use Rattle.desk.proofs.on_lists.put_sms.Tie as tie
+use Rattle.desk.proofs.on_lists.put_sms.Reads as reads
+use Rattle.desk.proofs.on_lists.put_sms.Lts as lts
+use Rattle.desk.proofs.on_lists.put_sm.Reads as put-sm-reads
+use Rattle.wire.proofs.lesser.Reads as lesser-reads
+
+abbrev Inv-loop : tie.InvT-loop
+Inv-loop row₀ k n sms count j₀ i₀ row j i = length row ≡ length row₀
+
+abbrev μ-loop : tie.MeasureT-loop
+μ-loop row₀ k n sms count j₀ i₀ row j i = count - i
+
+lesser-requires : tie.Need-lesser-requires Inv-loop μ-loop
+lesser-requires c κs = search needs
+
+loop-holds : tie.Need-loop-holds Inv-loop μ-loop
+loop-holds c = search needs
+
+mul-put-sm : tie.Need-mul-put-sm Inv-loop μ-loop
+mul-put-sm c = search needs
+
+array-copy-out-put-sm : tie.Need-array-copy-out-put-sm Inv-loop μ-loop
+array-copy-out-put-sm c = search needs
+
+put-sm-requires : tie.Need-put-sm-requires Inv-loop μ-loop
+put-sm-requires c κs = search needs
+
+add-i : tie.Need-add-i Inv-loop μ-loop
+add-i c = search needs
+
+loop-less : tie.Need-loop-less Inv-loop μ-loop
+loop-less c = search needs
+
+loop-again : tie.Need-loop-again Inv-loop μ-loop
+loop-again c = search needs
+
+same-length : tie.Need-same-length Inv-loop μ-loop
+same-length c = search needs
+
+returns : tie.Need-returns Inv-loop μ-loop
+returns c = search needs
+
+pub put-sms-spec : {M : Type 1} → statement M
+put-sms-spec =
+    tie.close
+    (tie.spec
+    Inv-loop
+    μ-loop
+    lesser-requires
+    loop-holds
+    mul-put-sm
+    array-copy-out-put-sm
+    put-sm-requires
+    add-i
+    loop-less
+    loop-again
+    same-length
+    returns)

@@ -1,0 +1,223 @@
+// The words of a line: the request's name, and what follows it, read by the request's shape.
+use crate::numbers::put;
+use lines::HexAnswer;
+use lines::NumberAnswer;
+use lines::word_end;
+use wire::byte_at;
+
+// A shape has a hex digit for each word, in their order: 1, 2 or 4 for a number of so many bytes, and these.
+const ACTIVE: u64 = 0xa;
+
+const BYTES: u64 = 0xb;
+
+const CHUNK: u64 = 0xc;
+
+// The place of a shape's first digit of sixteen.
+const TOP: u64 = 0x1000_0000_0000_0000;
+
+// What a word that can't be read is instead of a number.
+const UNREADABLE: u64 = 0xffff_ffff_ffff_ffff;
+
+// What is read so far.
+pub(crate) struct Reading {
+    pub readable: bool,
+    // The end of the last word.
+    pub end: usize,
+    // How many numbers there are. BYTES have theirs too: how many they are.
+    pub count: usize,
+    // How many BYTES there are, and the lengths of the first two; a buffer that none of them fills counts whole, as room for a text.
+    pub fills: u8,
+    pub first: usize,
+    pub second: usize,
+}
+
+// The eight letters of a word, spaces behind a shorter one; 0 of a longer one.
+pub(crate) fn name(word: &[u8]) -> u64 {
+    let mut v: u64 = 0;
+    let mut i = 0;
+    if 8 < word.len() {
+        return 0;
+    }
+    while i < 8 {
+        v = v % 0x0100_0000_0000_0000 * 256 + (letter(word, i) as u64);
+        i += 1;
+    }
+    v
+}
+
+fn letter(word: &[u8], i: usize) -> u8 {
+    if i < word.len() { word[i] } else { b' ' }
+}
+
+// A word as a number up to this one.
+fn number(word: &[u8], most: u64) -> u64 {
+    match lines::number(word) {
+        NumberAnswer::Is(v) => { if v <= most { v } else { UNREADABLE } }
+        NumberAnswer::Not => UNREADABLE,
+    }
+}
+
+fn chunk(v: u64) -> u64 {
+    match v {
+        4 => 4,
+        8 => 8,
+        _ => UNREADABLE,
+    }
+}
+
+// A word as bytes, put into the room: how many.
+fn bytes(word: &[u8], room: &mut [u8]) -> u64 {
+    match lines::hex(word, room) {
+        HexAnswer::Length(n) => n as u64,
+        HexAnswer::Not => UNREADABLE,
+    }
+}
+
+// A word by its digit in the shape.
+fn value(digit: u64, word: &[u8], fills: u8, first: &mut [u8], second: &mut [u8]) -> u64 {
+    match digit {
+        BYTES => {
+            if fills == 0 {
+                bytes(word, first)
+            } else {
+                bytes(word, second)
+            }
+        }
+        ACTIVE => number(word, 1),
+        CHUNK => chunk(number(word, 8)),
+        1 => number(word, 255),
+        2 => number(word, 65535),
+        _ => number(word, 4294967295),
+    }
+}
+
+fn unreadable(r: Reading) -> Reading {
+    Reading {
+        readable: false,
+        end: r.end,
+        count: r.count,
+        fills: r.fills,
+        first: r.first,
+        second: r.second,
+    }
+}
+
+// After BYTES of this length.
+fn filled(r: Reading, n: usize) -> Reading {
+    if r.fills == 0 {
+        Reading {
+            readable: r.readable,
+            end: r.end,
+            count: r.count,
+            fills: 1,
+            first: n,
+            second: r.second,
+        }
+    } else {
+        Reading {
+            readable: r.readable,
+            end: r.end,
+            count: r.count,
+            fills: 2,
+            first: r.first,
+            second: n,
+        }
+    }
+}
+
+// After a word that ends here.
+fn next(r: Reading, v: u64, count: usize, end: usize) -> Reading {
+    Reading {
+        readable: if v == UNREADABLE { false } else { r.readable },
+        end,
+        count,
+        fills: r.fills,
+        first: r.first,
+        second: r.second,
+    }
+}
+
+// The next word, by its digit in the shape.
+fn read_word(
+    line: &[u8],
+    digit: u64,
+    r: Reading,
+    nums: &mut [u64],
+    first: &mut [u8],
+    second: &mut [u8],
+) -> Reading {
+    let from = r.end;
+    if from < line.len() {
+        let v = value(digit, lines::word(line, from + 1), r.fills, first, second);
+        let count = put(nums, r.count, v);
+        let s = next(r, v, count, word_end(line, from + 1));
+        if digit == BYTES {
+            filled(s, v as usize)
+        } else {
+            s
+        }
+    } else {
+        unreadable(r)
+    }
+}
+
+// A shape's digit 0 stands before its first and is no word.
+fn step(
+    line: &[u8],
+    digit: u64,
+    r: Reading,
+    nums: &mut [u64],
+    first: &mut [u8],
+    second: &mut [u8],
+) -> Reading {
+    if digit == 0 {
+        r
+    } else {
+        read_word(line, digit, r, nums, first, second)
+    }
+}
+
+// All words of a line behind its name. Those that are not numbers go into the two buffers.
+fn read_words(
+    line: &[u8],
+    shape: u64,
+    nums: &mut [u64],
+    first: &mut [u8],
+    second: &mut [u8],
+) -> Reading {
+    let mut r = Reading {
+        readable: true,
+        end: word_end(line, 0),
+        count: 0,
+        fills: 0,
+        first: first.len(),
+        second: second.len(),
+    };
+    let mut rest = shape;
+    let mut i: u8 = 0;
+    while i < 16 {
+        r = step(line, rest / TOP, r, nums, first, second);
+        rest = rest % TOP * 16;
+        i += 1;
+    }
+    r
+}
+
+// The same, and nothing stands behind them. No request has shape 0.
+pub(crate) fn read(
+    line: &[u8],
+    shape: u64,
+    nums: &mut [u64],
+    first: &mut [u8],
+    second: &mut [u8],
+) -> Reading {
+    let r = read_words(line, shape, nums, first, second);
+    let end = r.end;
+    if shape == 0 {
+        unreadable(r)
+    } else if end < line.len() {
+        unreadable(r)
+    } else {
+        r
+    }
+}
