@@ -148,8 +148,10 @@ module _ {M : Type 1} (𝓤 : URA M) (H : Heap 𝓤) (A : Atoms 𝓤) (mem : Mem
     «read_byte» = λ κs a g r e. id⊢ 𝓤 _;
     «read» = λ κs a g r e. id⊢ 𝓤 _;
     «read_exact» = λ κs a g r e. id⊢ 𝓤 _;
+    «new-mut» = λ κs a g r e. id⊢ 𝓤 _;
     «write» = λ κs a g r e. id⊢ 𝓤 _;
     «byte_in» = λ κs a g r e. id⊢ 𝓤 _;
+    «write_in» = λ κs a g r e. id⊢ 𝓤 _;
     «set_receive_times» = λ κs a g r e. id⊢ 𝓤 _;
     «assign_next_downstream_port» = λ κs a g r e. id⊢ 𝓤 _;
     «after_assign» = λ κs a g r e. id⊢ 𝓤 _;

@@ -26,7 +26,9 @@ use Rattle.lines.specs.Pairs.{saidHex}
 use Rattle.lines.proofs.Unique.{number-unique, hex-unique}
 use Rattle.held.specs.declared.EepromRange.{EepromRange}
 use Rattle.held.specs.declared.ByteStep.{ByteStep}
+use Rattle.held.specs.declared.CountStep.{CountStep}
 use Rattle.held.specs.declared.Opened.{Opened}
+use Rattle.held.specs.declared.OpenedMut.{OpenedMut}
 use Rattle.held.specs.Answers.{saidOutcome, saidByteRead, saidCounted}
 use Rattle.held.proofs.Unique.{outcome-unique, byte-read-unique, counted-unique}
 use Rattle.pinned.specs.Pinned.{Pinned, With}
@@ -163,8 +165,10 @@ held-pinned = record {
   «read_byte» = λ self chunk. said-lent-pinned saidByteRead byte-read-unique _ _;
   «read» = λ self chunk buf. range-buf-lent saidCounted counted-unique _ _ _;
   «read_exact» = λ self chunk buf. range-buf-lent saidOutcome outcome-unique _ _ _;
+  «new-mut» = λ image word words. parts-pinned {R = OpenedMut} (λ a b. record { answer = a; range = b }) (λ x. x .answer) (λ x. x .range) (λ x. refl) (λ a. saidOutcome a ≡ _) (λ b. b ≡ _) (said-pinned saidOutcome outcome-unique _) (equal-pinned _);
   «write» = λ self given. said-lent-pinned saidCounted counted-unique _ _;
   «byte_in» = λ image pos end chunk. parts-pinned {R = ByteStep} (λ a b. record { answer = a; «byte_pos» = b }) (λ x. x .answer) (λ x. x .«byte_pos») (λ x. refl) (λ a. saidByteRead a ≡ _) (λ b. b ≡ _) (said-pinned saidByteRead byte-read-unique _) (equal-pinned _);
+  «write_in» = λ image pos end given. lent-pinned (λ (x : CountStep). (saidCounted (x .answer) ≡ _) × (x .«byte_pos» ≡ _)) (parts-pinned {R = CountStep} (λ a b. record { answer = a; «byte_pos» = b }) (λ x. x .answer) (λ x. x .«byte_pos») (λ x. refl) (λ a. saidCounted a ≡ _) (λ b. b ≡ _) (said-pinned saidCounted counted-unique _) (equal-pinned _)) _;
   «set_receive_times» = λ p t0 t3 t1 t2. equal-pinned _;
   «assign_next_downstream_port» = λ p device. lent-pinned (λ a. a ≡ _) (equal-pinned _) _;
   «after_assign» = λ p device. equal-pinned _;

@@ -253,10 +253,14 @@ module _ {M : Type 1} (𝓤 : URA M) (H : Heap 𝓤) (A : Atoms 𝓤) (mem : Mem
         (λ κs a r s ws vs. apart _ (held-pinned .«read» (now (a .0)) (a .1 .0) (now (a .1 .1 .0))) (λ l. (l .range, (tt, (l .buf, tt)))) (record { answer = r; lent = record { range = ws .0; buf = ws .1 .1 .0 } }) (record { answer = s; lent = record { range = vs .0; buf = vs .1 .1 .0 } }));
     «read_exact» = whole of-held.EepromRange.read_exact.ended (of-held.EepromRange.read_exact.clauses 𝓤 H A mem run) _ (held-contracts 𝓤 H A mem run .«read_exact»)
         (λ κs a r s ws vs. apart _ (held-pinned .«read_exact» (now (a .0)) (a .1 .0) (now (a .1 .1 .0))) (λ l. (l .range, (tt, (l .buf, tt)))) (record { answer = r; lent = record { range = ws .0; buf = ws .1 .1 .0 } }) (record { answer = s; lent = record { range = vs .0; buf = vs .1 .1 .0 } }));
+    «new-mut» = whole of-held.EepromRangeMut.new.ended (of-held.EepromRangeMut.new.clauses 𝓤 H A mem run) _ (held-contracts 𝓤 H A mem run .«new-mut»)
+        (λ κs a r s ws vs p q. (held-pinned .«new-mut» (a .0) (a .1 .0) (a .1 .1 .0) r s p q, refl));
     «write» = whole of-held.EepromRangeMut.write.ended (of-held.EepromRangeMut.write.clauses 𝓤 H A mem run) _ (held-contracts 𝓤 H A mem run .«write»)
         (λ κs a r s ws vs. apart _ (held-pinned .«write» (now (a .0)) (now (a .1 .0))) (λ l. (l, (tt, tt))) (record { answer = r; lent = ws .0 }) (record { answer = s; lent = vs .0 }));
     «byte_in» = whole of-held.byte_in.ended (of-held.byte_in.clauses 𝓤 H A mem run) _ (held-contracts 𝓤 H A mem run .«byte_in»)
         (λ κs a r s ws vs p q. (held-pinned .«byte_in» (now (a .0)) (a .1 .0) (a .1 .1 .0) (a .1 .1 .1 .0) r s p q, refl));
+    «write_in» = whole of-held.write_in.ended (of-held.write_in.clauses 𝓤 H A mem run) _ (held-contracts 𝓤 H A mem run .«write_in»)
+        (λ κs a r s ws vs. apart _ (held-pinned .«write_in» (now (a .0)) (a .1 .0) (a .1 .1 .0) (now (a .1 .1 .1 .0))) (λ l. (l, (tt, (tt, (tt, tt))))) (record { answer = r; lent = ws .0 }) (record { answer = s; lent = vs .0 }));
     «set_receive_times» = whole of-held.set_receive_times.ended (of-held.set_receive_times.clauses 𝓤 H A mem run) _ (held-contracts 𝓤 H A mem run .«set_receive_times»)
         (λ κs a r s ws vs p q. (refl, ap (λ l. (l, (tt, (tt, (tt, (tt, tt)))))) (held-pinned .«set_receive_times» (now (a .0)) (a .1 .0) (a .1 .1 .0) (a .1 .1 .1 .0) (a .1 .1 .1 .1 .0) (ws .0) (vs .0) p q)));
     «assign_next_downstream_port» = whole of-held.assign_next_downstream_port.ended (of-held.assign_next_downstream_port.clauses 𝓤 H A mem run) _ (held-contracts 𝓤 H A mem run .«assign_next_downstream_port»)

@@ -5,7 +5,7 @@ use mathlib.Core.Path.{_≡_}
 use mathlib.Core.List.{List}
 use denote.Ref.{RefT}
 use Rattle.eeprom.specs.declared.Chunk.{Chunk}
-use Rattle.eeprom.specs.Range.{newSaid, byteSaid}
+use Rattle.eeprom.specs.Range.{newSaid, byteSaid, writeSaid, writeImage}
 use Rattle.ports.specs.declared.Ports.{Ports}
 use Rattle.ports.specs.declared.PortAnswer.{PortAnswer}
 use Rattle.ports.specs.declared.Assigned.{Assigned}
@@ -17,8 +17,10 @@ use Rattle.held.specs.declared.Outcome.{Outcome}
 use Rattle.held.specs.declared.ByteRead.{ByteRead}
 use Rattle.held.specs.declared.ByteStep.{ByteStep}
 use Rattle.held.specs.declared.Counted.{Counted}
+use Rattle.held.specs.declared.CountStep.{CountStep}
 use Rattle.held.specs.declared.Opened.{Opened}
-use Rattle.held.specs.Range.{alone, stands, rangeOn, after, skipOf, byteOf, readOf, readInto, exactOf, exactInto, writeOf, written}
+use Rattle.held.specs.declared.OpenedMut.{OpenedMut}
+use Rattle.held.specs.Range.{alone, stands, rangeOn, rangeMutOn, after, skipOf, byteOf, readOf, readInto, exactOf, exactInto, writeOf, written}
 use Rattle.held.specs.Answers.{saidOutcome, saidByteRead, saidCounted}
 use Rattle.pinned.specs.Pinned.{With}
 
@@ -50,15 +52,26 @@ abbrev pub ReadExact : EepromRange → Chunk → List ℕ → With Outcome Range
 ReadExact self chunk buf r =
     (saidOutcome (r .answer) ≡ alone (exactOf self buf)) × ((r .lent .range ≡ after self (exactOf self buf)) × (r .lent .buf ≡ exactInto self buf))
 
--- ---- a range that is written: the answer, and the range with the image in it
+-- ---- a range that is written
 
+-- the answer, and the range that has the image in it
+abbrev pub NewMut : RefT (List ℕ) → ℕ → ℕ → OpenedMut → Type 0
+NewMut image word words r = (saidOutcome (r .answer) ≡ alone (newSaid word words)) × (r .range ≡ rangeMutOn image (newSaid word words))
+
+-- the answer, and the range with the image in it
 abbrev pub Write : EepromRangeMut → List ℕ → With Counted EepromRangeMut → Type 0
 Write self bytes r = (saidCounted (r .answer) ≡ alone (writeOf self bytes)) × (r .lent ≡ written self bytes)
 
--- ---- the door to a range
+-- ---- the doors to a range
 
 abbrev pub ByteIn : List ℕ → ℕ → ℕ → Chunk → ByteStep → Type 0
 ByteIn image pos end chunk r = (saidByteRead (r .answer) ≡ alone (byteSaid image pos end)) × (r .«byte_pos» ≡ stands pos (byteSaid image pos end))
+
+-- the answer with the position, and the image
+abbrev pub WriteIn : List ℕ → ℕ → ℕ → List ℕ → With CountStep (List ℕ) → Type 0
+WriteIn image pos end bytes r =
+    ((saidCounted (r .answer .answer) ≡ alone (writeSaid image pos end bytes)) × (r .answer .«byte_pos» ≡ stands pos (writeSaid image pos end bytes)))
+    × (r .lent ≡ writeImage image pos end bytes)
 
 -- ---- ports in the caller's record
 

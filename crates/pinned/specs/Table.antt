@@ -118,8 +118,11 @@ pub record HeldPinned : Type 0 where
   pub «read_byte» : (self : EepromRange) (chunk : Chunk) → Pinned (held.ReadByte self chunk)
   pub «read» : (self : EepromRange) (chunk : Chunk) (buf : List ℕ) → Pinned (held.Read self chunk buf)
   pub «read_exact» : (self : EepromRange) (chunk : Chunk) (buf : List ℕ) → Pinned (held.ReadExact self chunk buf)
+  -- `EepromRangeMut::new`: the record has a row `new` already
+  pub «new-mut» : (image : RefT (List ℕ)) (word words : ℕ) → Pinned (held.NewMut image word words)
   pub «write» : (self : EepromRangeMut) (given : List ℕ) → Pinned (held.Write self given)
   pub «byte_in» : (image : List ℕ) (pos end : ℕ) (chunk : Chunk) → Pinned (held.ByteIn image pos end chunk)
+  pub «write_in» : (image : List ℕ) (pos end : ℕ) (given : List ℕ) → Pinned (held.WriteIn image pos end given)
   pub «set_receive_times» : (p : Ports) (t0 t3 t1 t2 : ℕ) → Pinned (held.SetReceiveTimes p t0 t3 t1 t2)
   pub «assign_next_downstream_port» : (p : Ports) (device : ℕ) → Pinned (held.AssignNextDownstreamPort p device)
   pub «after_assign» : (p : Ports) (device : ℕ) → Pinned (held.AfterAssign p device)
