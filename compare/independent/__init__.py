@@ -5,7 +5,7 @@ program the same questions and looks for different answers. The Rust has no
 frame reader, no spreading and not all refusals; there this program is the
 only other voice.
 
-It was written from the words: document 01, the design's open points and the
+It was written from the words: document 01, the open points of docs/DECISIONS.md and the
 desk's line protocol. Its writer saw neither the Rattle nor the Rust. Where
 the words left a choice, UNCLEAR.md says what was chosen.
 

@@ -1,7 +1,7 @@
 """What is read out: alias, identity, mailbox, size, General, the lists.
 
 The places of the fields follow ETG1000.6 and ETG2010, so far as document 01
-and the design don't give them.
+and docs/DECISIONS.md don't give them.
 """
 
 import struct
@@ -21,13 +21,13 @@ SIZE_WORD = 0x3E
 CONFIGURATION_BYTES = 16
 SUMMED_BYTES = 14
 
-# Undefined bits of the flag sets (design, point 8).
+# Undefined bits of the flag sets (Decision 8).
 MAILBOX_UNDEFINED = 0xC0
 COE_UNDEFINED = 0xC0
 FLAGS_UNDEFINED = 0xE0
 ENABLE_UNDEFINED = 0xF0
 
-# Values with a name. Any other becomes 0, the default (design, point 8).
+# Values with a name. Any other becomes 0, the default (Decision 8).
 PORT_STATUSES = frozenset((0, 1, 2, 3, 4))
 OPERATION_MODES = frozenset((0, 2))
 DIRECTIONS = frozenset((0, 1))

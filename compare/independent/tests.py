@@ -258,7 +258,7 @@ class Range(Case):
         self.says("write eeee 0 2 61", "gives 2 @ 2 2 | 6100")
 
     def test_write_at_an_odd_position(self):
-        # Design, point 4.
+        # Decision 4.
         self.says("write 0000000000000000 3 4 6162",
                   "gives 2 @ 5 4 | 0000616200000000")
 
@@ -285,7 +285,7 @@ class Category(Case):
                       "refuses 14")
 
     def test_header_cut_by_the_end(self):
-        # Design, point 5.
+        # Decision 5.
         self.says(f"category {'00' * 129} 4 10", "refuses 1")
         self.says(f"category {'00' * 128} 4 10", "absent")
         self.says("category - 4 10", "absent")
@@ -342,7 +342,7 @@ class ReadOuts(Case):
         self.says(f"setalias {before.hex()} 4660", "gives | " + after.hex())
 
     def test_set_alias_on_a_short_image(self):
-        # Design, point 6.
+        # Decision 6.
         self.says("setalias " + "00" * 15 + " 1", "refuses 7 | " + "00" * 15)
         self.says("setalias - 1", "refuses 7 | -")
 
@@ -364,7 +364,7 @@ class ReadOuts(Case):
         self.says(line.format("00108000801080008000"), "refuses 5")
 
     def test_mailbox_of_a_short_image(self):
-        # Design, point 8.
+        # Decision 8.
         self.says("mailbox " + "00" * 56 + " 4", "refuses 5")
         self.says("mailbox " + "00" * 57 + " 4", "gives 0 0 0 0 0")
 
@@ -440,7 +440,7 @@ class Lists(Case):
                   "gives 8" + one * 8)
 
     def test_decoding_before_the_limit(self):
-        # Design, point 11: the 9th with a bad enable is 5.
+        # Decision 11: the 9th with a bad enable is 5.
         bad = bytes.fromhex("0010800026ff1101")
         self.says(f"sms {image((41, self.MANAGER * 8 + bad))} 4", "refuses 5")
         self.says(f"sms {image((41, bad))} 4", "refuses 5")
@@ -513,7 +513,7 @@ class Strings(Case):
         self.says("string - 4 1 ee", "absent | ee")
 
     def test_room(self):
-        # Design, point 10.
+        # Decision 10.
         large = "ee" * 256
         self.says(f"string - 4 0 {large}", f"refuses 14 | {large}")
         self.says(f"name - 4 {large}", f"refuses 14 | {large}")
@@ -586,7 +586,7 @@ class Strings(Case):
         self.says("desc - 4 eeee", "refuses 3 | eeee")
 
     def test_general_is_needed_whole(self):
-        # Design, point 9: whatever the index.
+        # Decision 9: whatever the index.
         self.says(f"name {self.both(bytes(16))} 4 ee", "refuses 2 | ee")
         self.says(f"desc {self.both(bytes(16))} 4 ee", "refuses 2 | ee")
         bad = bytes(5) + b"\x40" + bytes(12)
@@ -640,7 +640,7 @@ class Ports(Case):
                   + " 1", "gives 8")
 
     def test_time_to_a_port_before_the_entry(self):
-        # Design, point 13.
+        # Decision 13.
         late = ports((1, 9, 0), (1, 2, 0), (1, 4, 0), None)
         self.says(f"timeto {late} 0", "absent")
         self.says(f"timeto {late} 1", "gives 2")
@@ -677,7 +677,7 @@ class Ports(Case):
         self.says(f"linked {some} 7", "gives 1")
         self.says(f"linked {some} 8", "gives 3")
         self.says(f"linked {some} 9", "absent")
-        # Design, point 12.
+        # Decision 12.
         self.says(f"linked {some} 0", "refuses 14")
         self.says(f"linked {NO_PORTS} 7", "absent")
 
@@ -686,7 +686,7 @@ class Ports(Case):
         self.says(f"assign {NO_PORTS} 1", f"refuses 9 @ {NO_PORTS}")
 
     def test_assign_takes_the_entry(self):
-        # Design, point 14: active places 1 and 3, times 1 and 2.
+        # Decision 14: active places 1 and 3, times 1 and 2.
         self.says("assign " + ports(None, (1, 1, 0), None, (1, 2, 0)) + " 5",
                   "gives 3 @ 0 0 0 1 1 5 0 0 0 1 2 0")
 
@@ -744,7 +744,7 @@ class Builder(Case):
                   f"refuses 8 @ 0 0 5 2 | {area}")
 
     def test_14_takes_no_index(self):
-        # Design, point 16.
+        # Decision 16.
         area = "ee" * 20
         self.says(f"push {area} 0 0 0 1 15 0 - 0",
                   f"refuses 14 @ 0 0 0 1 | {area}")
@@ -785,7 +785,7 @@ class Builder(Case):
         self.says("canpush 100 0 0 0 65535", "gives 0")
 
     def test_more_follows_is_one_bit(self):
-        # Design, point 17: bits 11 to 13 of a handed-in area stay.
+        # Decision 17: bits 11 to 13 of a handed-in area stay.
         before = packed("00 00 00 00 00 00 00 38 00 00 00 00") + "00" * 12
         after = (packed("00 00 00 00 00 00 00 b8 00 00 00 00")
                  + packed("01 05 00 00 00 00 00 00 00 00 00 00"))
@@ -941,7 +941,7 @@ class Spreading(Case):
                     "refuses 13 @ 0 |")
 
     def test_skipped_first_area(self):
-        # Design, point 19: 12 bytes free, so its state comes back.
+        # Decision 19: 12 bytes free, so its state comes back.
         first = "11" * 24
         piece = packed("0c 08 00 00 00 00 01 00 00 00 aa 00 00") + "00" * 11
         self.says(f"spread 24 {first}{'22' * 24} 12 1 2 8 12 0 aa",
