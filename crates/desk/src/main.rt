@@ -18,12 +18,12 @@ use crate::requests::answer;
 // Buffers for input, one line, the BYTES of a request, its numbers, its answer's numbers, and answers that wait.
 fn main() {
     let mut chunk = [0u8; 65536];
-    let mut line = [0u8; 600000];
-    let mut first = [0u8; 131072];
-    let mut second = [0u8; 131072];
+    let mut line = longest();
+    let mut first = bytes();
+    let mut second = bytes();
     let mut nums = [0u64; 16];
     let mut values = [0u64; 1600];
-    let mut out = [0u8; 600000];
+    let mut out = longest();
     serve(
         &mut chunk,
         &mut line,
@@ -33,6 +33,16 @@ fn main() {
         &mut values,
         &mut out,
     );
+}
+
+// Room for the longest line, and for the answers that wait.
+fn longest() -> [u8; 600000] {
+    [0u8; 600000]
+}
+
+// Room for the most BYTES that a word may have.
+fn bytes() -> [u8; 131072] {
+    [0u8; 131072]
 }
 
 // So many bytes of answers are written out without waiting for the input's next bytes; an answer has fewer.

@@ -1,13 +1,10 @@
+-- `desk::serve` is safe and ends: every buffer keeps its length, and the turns count down.
 use mathlib.Core.Path.{_≡_}
 use borrow.Author.Needs.{needs}
 use lib.ListN.{length}
 use Prim.Native.Nat.{_≤_, _<_, _+_, _-_, _*_}
 use Rattle.desk.proofs.serve.Statement.{statement}
 use Rattle.desk.proofs.serve.Tie as tie
-use Rattle.desk.proofs.serve.Reads as reads
-use Rattle.desk.proofs.serve.Lts as lts
-use Rattle.desk.proofs.input.start.Reads as start-reads
-use Rattle.desk.proofs.turn.Reads as turn-reads
 
 abbrev Inv-loop : tie.InvT-loop
 Inv-loop chunk₀ line₀ first₀ second₀ nums₀ values₀ out₀ turns₀ s₀ chunk line first second nums values out turns s =
@@ -18,91 +15,69 @@ abbrev μ-loop : tie.MeasureT-loop
 μ-loop chunk₀ line₀ first₀ second₀ nums₀ values₀ out₀ turns₀ s₀ chunk line first second nums values out turns s =
     turns
 
--- src/main.rt:85:9
 start-requires : tie.Need-start-requires Inv-loop μ-loop
 start-requires c κs = search needs
 
--- src/main.rt:86:5
 loop-holds : tie.Need-loop-holds Inv-loop μ-loop
 loop-holds c = search needs
 
--- src/main.rt:87:9
 sub-turns : tie.Need-sub-turns Inv-loop μ-loop
 sub-turns c = search needs
 
--- src/main.rt:88:9
 turn-requires : tie.Need-turn-requires Inv-loop μ-loop
 turn-requires c κs = search needs
 
--- src/main.rt:90:13
 same-length : tie.Need-same-length Inv-loop μ-loop
 same-length c = search needs
 
--- src/main.rt:90:13
 same-length-2 : tie.Need-same-length-2 Inv-loop μ-loop
 same-length-2 c = search needs
 
--- src/main.rt:90:13
 same-length-3 : tie.Need-same-length-3 Inv-loop μ-loop
 same-length-3 c = search needs
 
--- src/main.rt:90:13
 same-length-4 : tie.Need-same-length-4 Inv-loop μ-loop
 same-length-4 c = search needs
 
--- src/main.rt:90:13
 same-length-5 : tie.Need-same-length-5 Inv-loop μ-loop
 same-length-5 c = search needs
 
--- src/main.rt:90:13
 same-length-6 : tie.Need-same-length-6 Inv-loop μ-loop
 same-length-6 c = search needs
 
--- src/main.rt:90:13
 same-length-7 : tie.Need-same-length-7 Inv-loop μ-loop
 same-length-7 c = search needs
 
--- src/main.rt:90:13
 returns : tie.Need-returns Inv-loop μ-loop
 returns c = search needs
 
--- src/main.rt:86:5
 loop-less : tie.Need-loop-less Inv-loop μ-loop
 loop-less c = search needs
 
--- src/main.rt:86:5
 loop-again : tie.Need-loop-again Inv-loop μ-loop
 loop-again c = search needs
 
--- src/main.rt:75:1
 same-length-8 : tie.Need-same-length-8 Inv-loop μ-loop
 same-length-8 c = search needs
 
--- src/main.rt:75:1
 same-length-9 : tie.Need-same-length-9 Inv-loop μ-loop
 same-length-9 c = search needs
 
--- src/main.rt:75:1
 same-length-10 : tie.Need-same-length-10 Inv-loop μ-loop
 same-length-10 c = search needs
 
--- src/main.rt:75:1
 same-length-11 : tie.Need-same-length-11 Inv-loop μ-loop
 same-length-11 c = search needs
 
--- src/main.rt:75:1
 same-length-12 : tie.Need-same-length-12 Inv-loop μ-loop
 same-length-12 c = search needs
 
--- src/main.rt:75:1
 same-length-13 : tie.Need-same-length-13 Inv-loop μ-loop
 same-length-13 c = search needs
 
--- src/main.rt:75:1
 same-length-14 : tie.Need-same-length-14 Inv-loop μ-loop
 same-length-14 c = search needs
 
--- src/main.rt:75:1
 returns-2 : tie.Need-returns-2 Inv-loop μ-loop
 returns-2 c = search needs
 

@@ -1,20 +1,16 @@
+-- `desk::numbers::front_mut` cuts within the slice: its length was tested.
 use native.Mathlib.Omega.{arith}
 use lib.ListN.{length-take}
 use borrow.Author.Needs.{needs}
 use Rattle.desk.proofs.numbers.front_mut.Statement.{statement}
 use Rattle.desk.proofs.numbers.front_mut.Tie as tie
-use Rattle.desk.proofs.numbers.front_mut.Reads as reads
-use Rattle.desk.proofs.numbers.front_mut.Lts as lts
 
--- src/numbers.rt:56:23
 slice-aggregate-result : tie.Need-slice-aggregate-result
 slice-aggregate-result c = simp length-take (omega arith)
 
--- src/numbers.rt:55:1
 returns : tie.Need-returns
 returns c = search needs
 
--- src/numbers.rt:55:1
 returns-2 : tie.Need-returns-2
 returns-2 c = search needs
 

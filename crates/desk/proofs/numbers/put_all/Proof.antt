@@ -1,12 +1,10 @@
+-- `desk::numbers::put_all` is safe and ends: the row keeps its length, and the numbers that are left fall.
 use mathlib.Core.Path.{_≡_}
 use borrow.Author.Needs.{needs}
 use lib.ListN.{length}
 use Prim.Native.Nat.{_≤_, _<_, _+_, _-_, _*_}
 use Rattle.desk.proofs.numbers.put_all.Statement.{statement}
 use Rattle.desk.proofs.numbers.put_all.Tie as tie
-use Rattle.desk.proofs.numbers.put_all.Reads as reads
-use Rattle.desk.proofs.numbers.put_all.Lts as lts
-use Rattle.desk.proofs.numbers.put.Reads as put-reads
 
 abbrev Inv-loop : tie.InvT-loop
 Inv-loop row₀ k xs j₀ i₀ row j i = length row ≡ length row₀
@@ -14,39 +12,30 @@ Inv-loop row₀ k xs j₀ i₀ row j i = length row ≡ length row₀
 abbrev μ-loop : tie.MeasureT-loop
 μ-loop row₀ k xs j₀ i₀ row j i = length xs - i
 
--- src/numbers.rt:43:5
 loop-holds : tie.Need-loop-holds Inv-loop μ-loop
 loop-holds c = search needs
 
--- src/numbers.rt:44:25
 mul-put : tie.Need-mul-put Inv-loop μ-loop
 mul-put c = search needs
 
--- src/numbers.rt:44:25
 shared-slice-read-put : tie.Need-shared-slice-read-put Inv-loop μ-loop
 shared-slice-read-put c = search needs
 
--- src/numbers.rt:44:9
 put-requires : tie.Need-put-requires Inv-loop μ-loop
 put-requires c κs = search needs
 
--- src/numbers.rt:45:9
 add-i : tie.Need-add-i Inv-loop μ-loop
 add-i c = search needs
 
--- src/numbers.rt:43:5
 loop-less : tie.Need-loop-less Inv-loop μ-loop
 loop-less c = search needs
 
--- src/numbers.rt:43:5
 loop-again : tie.Need-loop-again Inv-loop μ-loop
 loop-again c = search needs
 
--- src/numbers.rt:40:1
 same-length : tie.Need-same-length Inv-loop μ-loop
 same-length c = search needs
 
--- src/numbers.rt:40:1
 returns : tie.Need-returns Inv-loop μ-loop
 returns c = search needs
 

@@ -1,13 +1,10 @@
+-- `desk::on_frames::put_pdus` is safe and ends: the row keeps its length, and the PDUs that are left fall.
 use mathlib.Core.Path.{_≡_}
 use borrow.Author.Needs.{needs}
 use lib.ListN.{length}
 use Prim.Native.Nat.{_≤_, _<_, _+_, _-_, _*_}
 use Rattle.desk.proofs.on_frames.put_pdus.Statement.{statement}
 use Rattle.desk.proofs.on_frames.put_pdus.Tie as tie
-use Rattle.desk.proofs.on_frames.put_pdus.Reads as reads
-use Rattle.desk.proofs.on_frames.put_pdus.Lts as lts
-use Rattle.desk.proofs.on_frames.put_pdu.Reads as put-pdu-reads
-use Rattle.wire.proofs.lesser.Reads as lesser-reads
 
 abbrev Inv-loop : tie.InvT-loop
 Inv-loop row₀ k n pdus count j₀ i₀ row j i = length row ≡ length row₀
@@ -15,43 +12,33 @@ Inv-loop row₀ k n pdus count j₀ i₀ row j i = length row ≡ length row₀
 abbrev μ-loop : tie.MeasureT-loop
 μ-loop row₀ k n pdus count j₀ i₀ row j i = count - i
 
--- src/on_frames.rt:215:9
 lesser-requires : tie.Need-lesser-requires Inv-loop μ-loop
 lesser-requires c κs = search needs
 
--- src/on_frames.rt:218:5
 loop-holds : tie.Need-loop-holds Inv-loop μ-loop
 loop-holds c = search needs
 
--- src/on_frames.rt:219:29
 mul-put-pdu : tie.Need-mul-put-pdu Inv-loop μ-loop
 mul-put-pdu c = search needs
 
--- src/on_frames.rt:219:29
 array-copy-out-put-pdu : tie.Need-array-copy-out-put-pdu Inv-loop μ-loop
 array-copy-out-put-pdu c = search needs
 
--- src/on_frames.rt:219:9
 put-pdu-requires : tie.Need-put-pdu-requires Inv-loop μ-loop
 put-pdu-requires c κs = search needs
 
--- src/on_frames.rt:220:9
 add-i : tie.Need-add-i Inv-loop μ-loop
 add-i c = search needs
 
--- src/on_frames.rt:218:5
 loop-less : tie.Need-loop-less Inv-loop μ-loop
 loop-less c = search needs
 
--- src/on_frames.rt:218:5
 loop-again : tie.Need-loop-again Inv-loop μ-loop
 loop-again c = search needs
 
--- src/on_frames.rt:214:1
 same-length : tie.Need-same-length Inv-loop μ-loop
 same-length c = search needs
 
--- src/on_frames.rt:214:1
 returns : tie.Need-returns Inv-loop μ-loop
 returns c = search needs
 

@@ -5,11 +5,6 @@ use lib.ListN.{length}
 use Prim.Native.Nat.{_-_}
 use Rattle.desk.proofs.on_lists.put_fmmus.Statement.{statement}
 use Rattle.desk.proofs.on_lists.put_fmmus.Tie as tie
-use Rattle.desk.proofs.on_lists.put_fmmus.Reads as reads
-use Rattle.desk.proofs.on_lists.put_fmmus.Lts as lts
-use Rattle.desk.proofs.numbers.put.Reads as put-reads
-use Rattle.desk.proofs.numbers.wide8.Reads as wide8-reads
-use Rattle.wire.proofs.lesser.Reads as lesser-reads
 
 abbrev Inv-loop : tie.InvT-loop
 Inv-loop row₀ k n fmmus count j₀ i₀ row j i = length row ≡ length row₀

@@ -5,10 +5,6 @@ use lib.ListN.{length}
 use Prim.Native.Nat.{_-_}
 use Rattle.desk.proofs.on_lists.put_pdos.Statement.{statement}
 use Rattle.desk.proofs.on_lists.put_pdos.Tie as tie
-use Rattle.desk.proofs.on_lists.put_pdos.Reads as reads
-use Rattle.desk.proofs.on_lists.put_pdos.Lts as lts
-use Rattle.desk.proofs.on_lists.put_pdo.Reads as put-pdo-reads
-use Rattle.wire.proofs.lesser.Reads as lesser-reads
 
 abbrev Inv-loop : tie.InvT-loop
 Inv-loop row₀ k n pdos count j₀ i₀ row j i = length row ≡ length row₀

@@ -5,10 +5,6 @@ use lib.ListN.{length}
 use Prim.Native.Nat.{_-_}
 use Rattle.desk.proofs.on_lists.put_sms.Statement.{statement}
 use Rattle.desk.proofs.on_lists.put_sms.Tie as tie
-use Rattle.desk.proofs.on_lists.put_sms.Reads as reads
-use Rattle.desk.proofs.on_lists.put_sms.Lts as lts
-use Rattle.desk.proofs.on_lists.put_sm.Reads as put-sm-reads
-use Rattle.wire.proofs.lesser.Reads as lesser-reads
 
 abbrev Inv-loop : tie.InvT-loop
 Inv-loop row₀ k n sms count j₀ i₀ row j i = length row ≡ length row₀

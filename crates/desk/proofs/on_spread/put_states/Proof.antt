@@ -1,13 +1,10 @@
+-- `desk::on_spread::put_states` is safe and ends: the row keeps its length, and the states that are left fall.
 use mathlib.Core.Path.{_≡_}
 use borrow.Author.Needs.{needs}
 use lib.ListN.{length}
 use Prim.Native.Nat.{_≤_, _<_, _+_, _-_, _*_}
 use Rattle.desk.proofs.on_spread.put_states.Statement.{statement}
 use Rattle.desk.proofs.on_spread.put_states.Tie as tie
-use Rattle.desk.proofs.on_spread.put_states.Reads as reads
-use Rattle.desk.proofs.on_spread.put_states.Lts as lts
-use Rattle.desk.proofs.on_spread.put_state.Reads as put-state-reads
-use Rattle.wire.proofs.lesser.Reads as lesser-reads
 
 abbrev Inv-loop : tie.InvT-loop
 Inv-loop row₀ k n states count j₀ i₀ row j i = length row ≡ length row₀
@@ -15,43 +12,33 @@ Inv-loop row₀ k n states count j₀ i₀ row j i = length row ≡ length row�
 abbrev μ-loop : tie.MeasureT-loop
 μ-loop row₀ k n states count j₀ i₀ row j i = count - i
 
--- src/on_spread.rt:35:9
 lesser-requires : tie.Need-lesser-requires Inv-loop μ-loop
 lesser-requires c κs = search needs
 
--- src/on_spread.rt:38:5
 loop-holds : tie.Need-loop-holds Inv-loop μ-loop
 loop-holds c = search needs
 
--- src/on_spread.rt:39:31
 mul-put-state : tie.Need-mul-put-state Inv-loop μ-loop
 mul-put-state c = search needs
 
--- src/on_spread.rt:39:31
 array-copy-out-put-state : tie.Need-array-copy-out-put-state Inv-loop μ-loop
 array-copy-out-put-state c = search needs
 
--- src/on_spread.rt:39:9
 put-state-requires : tie.Need-put-state-requires Inv-loop μ-loop
 put-state-requires c κs = search needs
 
--- src/on_spread.rt:40:9
 add-i : tie.Need-add-i Inv-loop μ-loop
 add-i c = search needs
 
--- src/on_spread.rt:38:5
 loop-less : tie.Need-loop-less Inv-loop μ-loop
 loop-less c = search needs
 
--- src/on_spread.rt:38:5
 loop-again : tie.Need-loop-again Inv-loop μ-loop
 loop-again c = search needs
 
--- src/on_spread.rt:34:1
 same-length : tie.Need-same-length Inv-loop μ-loop
 same-length c = search needs
 
--- src/on_spread.rt:34:1
 returns : tie.Need-returns Inv-loop μ-loop
 returns c = search needs
 

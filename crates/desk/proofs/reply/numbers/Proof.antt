@@ -1,14 +1,10 @@
+-- `desk::reply::numbers` is safe and ends: the numbers that are left fall.
 use mathlib.Core.Path.{_≡_}
 use borrow.Author.Needs.{needs}
 use lib.ListN.{length}
 use Prim.Native.Nat.{_≤_, _<_, _+_, _-_, _*_}
 use Rattle.desk.proofs.reply.numbers.Statement.{statement}
 use Rattle.desk.proofs.reply.numbers.Tie as tie
-use Rattle.desk.proofs.reply.numbers.Reads as reads
-use Rattle.desk.proofs.reply.numbers.Lts as lts
-use Rattle.desk.proofs.numbers.at.Reads as at-reads
-use Rattle.lines.proofs.decimal.Reads as decimal-reads
-use Rattle.lines.proofs.say.Reads as say-reads
 
 abbrev Inv-loop : tie.InvT-loop
 Inv-loop out₀ k row from to j₀ i₀ t8 out j i = length out ≡ length out₀
@@ -16,43 +12,33 @@ Inv-loop out₀ k row from to j₀ i₀ t8 out j i = length out ≡ length out�
 abbrev μ-loop : tie.MeasureT-loop
 μ-loop out₀ k row from to j₀ i₀ t8 out j i = to - i
 
--- src/reply.rt:114:5
 loop-holds : tie.Need-loop-holds Inv-loop μ-loop
 loop-holds c = search needs
 
--- src/reply.rt:115:25
 slice-aggregate-say : tie.Need-slice-aggregate-say Inv-loop μ-loop
 slice-aggregate-say c = search needs
 
--- src/reply.rt:115:9
 say-requires : tie.Need-say-requires Inv-loop μ-loop
 say-requires c κs = search needs
 
--- src/reply.rt:116:29
 at-requires : tie.Need-at-requires Inv-loop μ-loop
 at-requires c κs = search needs
 
--- src/reply.rt:116:9
 decimal-requires : tie.Need-decimal-requires Inv-loop μ-loop
 decimal-requires c κs = search needs
 
--- src/reply.rt:117:9
 add-i : tie.Need-add-i Inv-loop μ-loop
 add-i c = search needs
 
--- src/reply.rt:114:5
 loop-less : tie.Need-loop-less Inv-loop μ-loop
 loop-less c = search needs
 
--- src/reply.rt:114:5
 loop-again : tie.Need-loop-again Inv-loop μ-loop
 loop-again c = search needs
 
--- src/reply.rt:111:1
 same-length : tie.Need-same-length Inv-loop μ-loop
 same-length c = search needs
 
--- src/reply.rt:111:1
 returns : tie.Need-returns Inv-loop μ-loop
 returns c = search needs
 

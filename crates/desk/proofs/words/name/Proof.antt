@@ -1,12 +1,10 @@
+-- `desk::words::name` is safe and ends: the letters that are left fall.
 use mathlib.Core.Path.{_≡_}
 use borrow.Author.Needs.{needs}
 use lib.ListN.{length}
 use Prim.Native.Nat.{_≤_, _<_, _+_, _-_, _*_}
 use Rattle.desk.proofs.words.name.Statement.{statement}
 use Rattle.desk.proofs.words.name.Tie as tie
-use Rattle.desk.proofs.words.name.Reads as reads
-use Rattle.desk.proofs.words.name.Lts as lts
-use Rattle.desk.proofs.words.letter.Reads as letter-reads
 
 abbrev Inv-loop : tie.InvT-loop
 Inv-loop word v₀ i₀ v i = Unit {0}
@@ -14,43 +12,33 @@ Inv-loop word v₀ i₀ v i = Unit {0}
 abbrev μ-loop : tie.MeasureT-loop
 μ-loop word v₀ i₀ v i = 8 - i
 
--- src/words.rt:39:9
 returns : tie.Need-returns Inv-loop μ-loop
 returns c = search needs
 
--- src/words.rt:41:5
 loop-holds : tie.Need-loop-holds Inv-loop μ-loop
 loop-holds c = search needs
 
--- src/words.rt:42:13
 mul-v : tie.Need-mul-v Inv-loop μ-loop
 mul-v c = search needs
 
--- src/words.rt:42:48
 letter-requires : tie.Need-letter-requires Inv-loop μ-loop
 letter-requires c κs = search needs
 
--- src/words.rt:42:48
 cast-v : tie.Need-cast-v Inv-loop μ-loop
 cast-v c = search needs
 
--- src/words.rt:42:13
 add-v : tie.Need-add-v Inv-loop μ-loop
 add-v c = search needs
 
--- src/words.rt:43:9
 add-i : tie.Need-add-i Inv-loop μ-loop
 add-i c = search needs
 
--- src/words.rt:41:5
 loop-less : tie.Need-loop-less Inv-loop μ-loop
 loop-less c = search needs
 
--- src/words.rt:41:5
 loop-again : tie.Need-loop-again Inv-loop μ-loop
 loop-again c = search needs
 
--- src/words.rt:35:1
 returns-2 : tie.Need-returns-2 Inv-loop μ-loop
 returns-2 c = search needs
 

@@ -1,13 +1,10 @@
+-- `desk::words::read_words` is safe and ends: the words of the shape that are left fall.
 use mathlib.Core.Path.{_≡_}
 use borrow.Author.Needs.{needs}
 use lib.ListN.{length}
 use Prim.Native.Nat.{_≤_, _<_, _+_, _-_, _*_}
 use Rattle.desk.proofs.words.read_words.Statement.{statement}
 use Rattle.desk.proofs.words.read_words.Tie as tie
-use Rattle.desk.proofs.words.read_words.Reads as reads
-use Rattle.desk.proofs.words.read_words.Lts as lts
-use Rattle.desk.proofs.words.step.Reads as step-reads
-use Rattle.lines.proofs.word_end.Reads as word-end-reads
 
 abbrev Inv-loop : tie.InvT-loop
 Inv-loop line shape nums₀ first₀ second₀ r₀ rest₀ i₀ nums first second r rest i = (length nums ≡ length nums₀) × (length first ≡ length first₀) × (length second ≡ length second₀)
@@ -15,47 +12,36 @@ Inv-loop line shape nums₀ first₀ second₀ r₀ rest₀ i₀ nums first seco
 abbrev μ-loop : tie.MeasureT-loop
 μ-loop line shape nums₀ first₀ second₀ r₀ rest₀ i₀ nums first second r rest i = 16 - i
 
--- src/words.rt:190:14
 word-end-requires : tie.Need-word-end-requires Inv-loop μ-loop
 word-end-requires c κs = search needs
 
--- src/words.rt:198:5
 loop-holds : tie.Need-loop-holds Inv-loop μ-loop
 loop-holds c = search needs
 
--- src/words.rt:199:9
 step-requires : tie.Need-step-requires Inv-loop μ-loop
 step-requires c κs = search needs
 
--- src/words.rt:200:16
 mul-rest : tie.Need-mul-rest Inv-loop μ-loop
 mul-rest c = search needs
 
--- src/words.rt:201:9
 add-i : tie.Need-add-i Inv-loop μ-loop
 add-i c = search needs
 
--- src/words.rt:198:5
 loop-less : tie.Need-loop-less Inv-loop μ-loop
 loop-less c = search needs
 
--- src/words.rt:198:5
 loop-again : tie.Need-loop-again Inv-loop μ-loop
 loop-again c = search needs
 
--- src/words.rt:181:1
 same-length : tie.Need-same-length Inv-loop μ-loop
 same-length c = search needs
 
--- src/words.rt:181:1
 same-length-2 : tie.Need-same-length-2 Inv-loop μ-loop
 same-length-2 c = search needs
 
--- src/words.rt:181:1
 same-length-3 : tie.Need-same-length-3 Inv-loop μ-loop
 same-length-3 c = search needs
 
--- src/words.rt:181:1
 returns : tie.Need-returns Inv-loop μ-loop
 returns c = search needs
 
