@@ -24,7 +24,7 @@ module _ (s t : List ℕ) (e : SameFrom categories s t) where
   in-behind p end h = record { bytes = λ i a b. e .bytes i (omega arith) }
 
   -- a list of a category, of any kind, that reads up to a cut
-  list-same : {R : Type 0} (item : List ℕ → ℕ → ℕ → Item R) → Moves item → Local item → (most number : ℕ) (cut : ℕ → ℕ → ℕ) →
+  pub list-same : {R : Type 0} (item : List ℕ → ℕ → ℕ → Item R) → Moves item → Local item → (most number : ℕ) (cut : ℕ → ℕ → ℕ) →
       inCategory (categorySaid s number) (λ p end. records (item s (cut p end)) most p) ≡ inCategory (categorySaid t number) (λ p end. records (item t (cut p end)) most p)
   unfolding inCategory
   list-same item m c most number cut = rw (category-same s t e number) (go (categorySaid t number) (category-behind t number))

@@ -70,20 +70,20 @@ Holds image number p end = categorySaid image number ≡ gives (p ∷ end ∷ []
 
 -- of a kind of list that reads up to a cut, which is not past the end
 module _ {R : Type 0} (item : List ℕ → ℕ → ℕ → Item R) (m : Moves item) (c : Local item) (most number : ℕ) (cut : ℕ → ℕ → ℕ) (k : (p end : ℕ) → cut p end ≤ end) where
-  list-inside : (image : List ℕ) (p end : ℕ) (l : List R) → Holds image number p end →
+  pub list-inside : (image : List ℕ) (p end : ℕ) (l : List R) → Holds image number p end →
       inCategory (categorySaid image number) (λ p end. records (item image (cut p end)) most p) ≡ holds l → Inside (item image (cut p end)) end p l
   list-inside image p end l h e =
       records-inside (item image (cut p end)) end (λ q r n x. let f = m image (cut p end) q r n x in (f .0, omega (arith, k p end))) most p l
       (sym (in-found (categorySaid image number) _ p end h) ∙ e)
 
-  list-local : (s t : List ℕ) (p end : ℕ) → Holds s number p end → Holds t number p end → SameIn p end s t →
+  pub list-local : (s t : List ℕ) (p end : ℕ) → Holds s number p end → Holds t number p end → SameIn p end s t →
       inCategory (categorySaid s number) (λ p end. records (item s (cut p end)) most p) ≡ inCategory (categorySaid t number) (λ p end. records (item t (cut p end)) most p)
   list-local s t p end h j e =
       in-found (categorySaid s number) _ p end h
       ∙ records-local item m c s t (cut p end) most p (record { bytes = λ i a b. e .bytes i a (omega (arith, k p end)) })
       ∙ sym (in-found (categorySaid t number) _ p end j)
 
-all : (p end : ℕ) → end ≤ end
+pub all : (p end : ℕ) → end ≤ end
 all p end = omega arith
 
 sixteen : (p end : ℕ) → min end (p + fmmuMost) ≤ end

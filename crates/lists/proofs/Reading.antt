@@ -23,7 +23,7 @@ use Rattle.lists.specs.declared.FmmuKind.the-variants as kind
 -- ---- where a record ends
 
 -- a record stands at p: both tests held, and the next starts where the definition says
-ends-in : {R : Type 0} (t u : Bool) (r r′ : R) (q q′ : ℕ) → one r q ≡ pick t (pick u (one r′ q′) bad) none → (t ≡ true) × (u ≡ true) × (q ≡ q′) × (r ≡ r′)
+pub ends-in : {R : Type 0} (t u : Bool) (r r′ : R) (q q′ : ℕ) → one r q ≡ pick t (pick u (one r′ q′) bad) none → (t ≡ true) × (u ≡ true) × (q ≡ q′) × (r ≡ r′)
 ends-in true true r r′ q q′ p = (refl, refl, cc, cc)
 ends-in true false r r′ q q′ p = (refl, cc, cc, cc)
 ends-in false u r r′ q q′ p = (cc, cc, cc, cc)
@@ -59,12 +59,12 @@ pdo-moves image end p r q e =
 -- ---- what a record reads
 
 -- the first byte behind a field
-abbrev stop : Field → ℕ
+abbrev pub stop : Field → ℕ
 stop (byte k) = k + 1
 stop (word k) = k + 2
 stop (long k) = k + 4
 
-field-in : (s t : List ℕ) (end p : ℕ) → SameIn p end s t → (f : Field) → p + stop f ≤ end → field s p f ≡ field t p f
+pub field-in : (s t : List ℕ) (end p : ℕ) → SameIn p end s t → (f : Field) → p + stop f ≤ end → field s p f ≡ field t p f
 field-in s t end p e (byte k) h = e .bytes (p + k) (omega arith) (omega arith)
 field-in s t end p e (word k) h = rw (e .bytes (p + k) (omega arith) (omega arith), e .bytes (p + k + 1) (omega arith) (omega arith))
 field-in s t end p e (long k) h =

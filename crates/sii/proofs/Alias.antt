@@ -103,7 +103,7 @@ module _ (image : List ℕ) (alias : ℕ) (h : checksumEnd ≤ length image) whe
       overlay-inside (withAlias image alias) 14 _ l 0 (omega arith) ∙ ap crcOf (sym (overlay-front (withAlias image alias) 14 _ l))
 
 -- where the answer is Done, the image was long enough, and not too long
-set-done : (image : List ℕ) (alias : ℕ) → setSaid image ≡ gives [] → (within image ≡ true) × (checksumEnd ≤ length image) × (setImage image alias ≡ aliased image alias)
+pub set-done : (image : List ℕ) (alias : ℕ) → setSaid image ≡ gives [] → (within image ≡ true) × (checksumEnd ≤ length image) × (setImage image alias ≡ aliased image alias)
 unfolding setSaid setImage lent
 set-done image alias p = go (within image) (leb 16 (length image)) refl refl p
   where

@@ -1,0 +1,4 @@
+pub mod Layout
+pub mod Setup
+pub mod Answers
+pub mod Alias
