@@ -5,9 +5,10 @@ program the same questions and looks for different answers. The Rust has no
 frame reader, no spreading and not all refusals; there this program is the
 only other voice.
 
-It was written from the words: document 01, the open points of docs/DECISIONS.md and the
-desk's line protocol. Its writer saw neither the Rattle nor the Rust. Where
-the words left a choice, UNCLEAR.md says what was chosen.
+It was written from the words: document 01, the open points of
+docs/DECISIONS.md and the desk's line protocol. Its writers saw neither the
+Rattle nor the Rust. Where the words left a choice, UNCLEAR.md says what was
+chosen.
 
 How to run it, from the repository's root:
 
@@ -25,6 +26,7 @@ Where things are:
     eeprom.py    the EEPROM range
     category.py  finding a category
     sii.py       alias, identity, mailbox, size, General, lists
+    setup.py     PDI, bootstrap mailbox, version, checksum, clocks
     strings.py   strings, device name, description
     ports.py     ports, topology, delays
     frames.py    the builder and the frame reader

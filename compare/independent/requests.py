@@ -15,6 +15,8 @@ STATE = (u16, u16, u16)
 COUNTED_STATE = STATE + (u8,)
 IMAGE = (data, chunk)
 
+LINE_LIMIT = 600_000
+
 TABLE = {}
 
 
@@ -30,6 +32,8 @@ def request(word, *kinds):
 
 def answer(line):
     """The answer to one line, without its line end."""
+    if len(line) > LINE_LIMIT:
+        return UNREADABLE
     words = line.split(b" ")
     try:
         kinds, function = TABLE[words[0]]

@@ -1,8 +1,8 @@
-"""What ethercrab leaves unread: PDI control, bootstrap mailbox, version, the
-checksum, the distributed clock.
+"""What sets a device up: PDI, bootstrap mailbox, version, checksum, clocks.
 
-The places of the fields follow ETG2010, Table 2 and its category DC, which
-were not at hand: docs/DECISIONS.md, 'setup' and 'clock'.
+Document 01 places the checksum alone, where it sets the alias. The other
+places follow ETG1000.6 and ETG2010, the order of the answers the desk's line
+protocol.
 """
 
 import struct
@@ -11,50 +11,55 @@ from . import category, eeprom
 from .crc import crc
 from .refusal import ABSENT, CAPACITY, refuse_unless
 
-PDI_WORD = 0x00
-CHECKSUM_WORD = 0x07
-BOOTSTRAP_WORD = 0x14
+PDI_BYTE = 2 * 0x00
+CHECKSUM_BYTE = 2 * 0x07
+BOOTSTRAP_BYTE = 2 * 0x14
 VERSION_WORD = 0x3F
 
-# Cycle and shift of Sync0, shift of Sync1, two factors around the activation,
-# two string indices, four bytes that aren't looked at.
-CLOCK = struct.Struct("<IIIHHHBB4x")
+# Words 0 to 6 are summed; the sum is the low byte of word 7.
+SUMMED_BYTES = 2 * 7
+
+# Three times of 32 bits; sync 1 factor, assign-activate and sync 0 factor of
+# 16; two string indices of 8; four reserved bytes, which are ignored. The
+# factors are signed in the SII; the desk gives them "as 16 bits unsigned".
+CLOCK = struct.Struct("<3I3HBB4x")
 CLOCK_LIMIT = 8
 
 
-def _words(image, first, count):
-    eeprom.check_image(image)
-    return tuple(eeprom.word_at(image, word)
-                 for word in range(first, first + count))
-
-
 def pdi(image):
-    """PDI control, PDI configuration, sync impulse length, configuration 2."""
-    return _words(image, PDI_WORD, 4)
+    """Control, configuration, sync impulse length, configuration 2."""
+    eeprom.check_image(image)
+    return struct.unpack("<4H", eeprom.stored(image, PDI_BYTE, 8))
 
 
 def bootstrap_mailbox(image):
     """Receive offset and size, send offset and size."""
-    return _words(image, BOOTSTRAP_WORD, 4)
+    eeprom.check_image(image)
+    return struct.unpack("<4H", eeprom.stored(image, BOOTSTRAP_BYTE, 8))
 
 
 def version(image):
-    return _words(image, VERSION_WORD, 1)
+    eeprom.check_image(image)
+    return eeprom.word_at(image, VERSION_WORD)
 
 
 def checksum(image):
-    """Stored, in the low byte of its word, and computed over what is before."""
+    """Stored and computed. They may differ: that is an answer."""
     eeprom.check_image(image)
-    stored = eeprom.word_at(image, CHECKSUM_WORD) & 0xFF
-    return stored, crc(eeprom.stored(image, 0, 2 * CHECKSUM_WORD))
+    stored = eeprom.stored(image, CHECKSUM_BYTE, 1)[0]
+    return stored, crc(eeprom.stored(image, 0, SUMMED_BYTES))
 
 
 def clocks(image):
-    """The whole records of the category; a rest is left alone."""
+    """The records of the category; "No category: empty list". """
     at = category.category(image, category.CLOCK)
+    found = []
     if at is ABSENT:
-        return []
-    body = eeprom.stored(image, at.pos, at.left())
-    whole = len(body) // CLOCK.size
-    refuse_unless(whole <= CLOCK_LIMIT, CAPACITY)
-    return list(CLOCK.iter_unpack(body[:whole * CLOCK.size]))
+        return found
+    # "a partial last record ends the list"
+    while at.left() >= CLOCK.size:
+        refuse_unless(len(found) < CLOCK_LIMIT, CAPACITY)
+        record = bytearray(CLOCK.size)
+        eeprom.read_exact(image, at, record)
+        found.append(CLOCK.unpack(record))
+    return found

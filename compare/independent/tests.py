@@ -503,37 +503,216 @@ class Lists(Case):
 
 
 class Setup(Case):
-    """What ethercrab leaves unread. bench.txt has the plain cases."""
+    # Each byte holds its own place, so a word w holds (2w + 1) * 256 + 2w.
+    PLACES = bytes(range(128)).hex()
+    WORDS = ("pdi {} 4", "bootmail {} 4", "version {} 4", "checksum {} 4",
+             "clocks {} 4")
 
-    CLOCK = bytes.fromhex("01000000 02000000 03000000 0400 0500 0600 07 08"
-                          " 09090909".replace(" ", ""))
+    def test_image_too_large(self):
+        for word in self.WORDS:
+            self.says(word.format("00" * 65_537), "refuses 14")
+            self.starts(word.format("00" * 128 + "ff" * 65_408), "gives")
 
-    def test_past_the_image(self):
+    def test_too_large_before_the_category(self):
+        # The category alone would be refused with 1.
+        large = "00" * 129 + "ff" * 65_408
+        self.says(f"clocks {large} 4", "refuses 14")
+        self.says(f"clocks {large[:-2]} 4", "refuses 1")
+
+    def test_no_answer_depends_on_the_chunk(self):
+        some = self.PLACES + header(60, 13).hex() + self.CLOCK.hex() + "3c"
+        for word in self.WORDS:
+            self.assertEqual(ask(word.format(some)),
+                             ask(word.format(some)[:-1] + "8"))
+
+    def test_empty_image(self):
+        # All bytes read 0xFF. Of 14 such the CRC is, byte by byte, 00 f3 24
+        # 0f de e7 48 0c d7 d8 f5 36 71 a3.
+        self.says("pdi - 4", "gives 65535 65535 65535 65535")
+        self.says("bootmail - 4", "gives 65535 65535 65535 65535")
+        self.says("version - 4", "gives 65535")
+        self.says("checksum - 4", "gives 255 163")
+        self.says("clocks - 4", "gives 0")
+
+    def test_pdi(self):
+        self.says(f"pdi {self.PLACES} 4", "gives 256 770 1284 1798")
+        self.says("pdi 050e03440a000080 4", "gives 3589 17411 10 32768")
+
+    def test_pdi_of_a_short_image(self):
         self.says("pdi 01 4", "gives 65281 65535 65535 65535")
-        self.says("bootmail " + "00" * 41 + " 8",
-                  "gives 65280 65535 65535 65535")
-        self.says("version " + "00" * 127 + " 4", "gives 65280")
+        self.says("pdi 0102030405 4", "gives 513 1027 65285 65535")
+        self.says("pdi 01020304050607 4", "gives 513 1027 1541 65287")
+
+    def test_bootstrap_mailbox(self):
+        # Bytes 40 to 47: 41 * 256 + 40 and so on.
+        self.says(f"bootmail {self.PLACES} 4",
+                  "gives 10536 11050 11564 12078")
+        # It is no part of the mailbox behind it.
+        both = "00" * 40 + packed("00 10 f4 01 f4 13 f4 01 00 18 80 00 80 18"
+                                  "80 00 0c 00")
+        self.says(f"bootmail {both} 4", "gives 4096 500 5108 500")
+        self.says(f"mailbox {both} 4", "gives 6144 128 6272 128 12")
+
+    def test_bootstrap_mailbox_of_a_short_image(self):
+        line = "bootmail " + "00" * 40 + "{} 4"
+        self.says("bootmail " + "00" * 40 + " 4", "gives" + " 65535" * 4)
+        self.says(line.format("01"), "gives 65281 65535 65535 65535")
+        self.says(line.format("0102030405"), "gives 513 1027 65285 65535")
+        self.says(line.format("01020304050607"), "gives 513 1027 1541 65287")
+
+    def test_version(self):
+        self.says(f"version {self.PLACES} 4", "gives 32638")
+        self.says("version " + "00" * 126 + "0100 4", "gives 1")
+        # Neither the size before it nor the category after it.
+        self.says("version " + "ff" * 126 + "0000ff 4", "gives 0")
+
+    def test_version_of_a_short_image(self):
+        self.says("version " + "00" * 126 + " 4", "gives 65535")
+        self.says("version " + "00" * 126 + "01 4", "gives 65281")
 
     def test_checksum(self):
-        # Eight zero bytes read as such, the rest as 0xFF.
-        filled = crc(bytes(8) + b"\xff" * 6)
-        self.says("checksum " + "00" * 8 + " 4", f"gives 255 {filled}")
+        # The bench's 0x30 of 14 zero bytes.
+        self.says("checksum " + "00" * 14 + "3000 4", "gives 48 48")
+        # A wrong one is given like a right one, the high byte not at all.
+        self.says("checksum " + "00" * 14 + "31ff 4", "gives 49 48")
+        self.says("checksum " + "00" * 14 + "a488 4", "gives 164 48")
 
-    def test_checksum_after_the_alias_is_set(self):
-        answer = ask("setalias " + bytes(range(16)).hex() + " 4660")
-        stored, computed = ask("checksum " + answer.split(" | ")[1]
-                               + " 4").split()[1:]
-        self.assertEqual(stored, computed)
+    def test_checksum_covers_bytes_0_to_13(self):
+        self.says("checksum " + "00" * 14 + "30" + "ee" * 200 + " 4",
+                  "gives 48 48")
+        for place in range(14):
+            changed = bytearray(15)
+            changed[14] = 48
+            changed[place] = 1
+            self.assertNotEqual(ask(f"checksum {changed.hex()} 4"),
+                                "gives 48 48")
+
+    def test_checksum_by_division(self):
+        # Words 0 to 6 "as unsigned number", the start xored onto byte 0.
+        number = int.from_bytes(b"\xff" + bytes(range(1, 14)), "big") << 8
+        for bit in range(119, 7, -1):
+            if number >> bit & 1:
+                number ^= 0x107 << (bit - 8)
+        self.says(f"checksum {self.PLACES} 4", f"gives 14 {number}")
+
+    def test_checksum_of_a_short_image(self):
+        # The byte past 14 zeros reads 0xFF.
+        self.says("checksum " + "00" * 14 + " 4", "gives 255 48")
+        # Byte 13 too: 0xFF alone, from start 0, has 0xF3; 0x30 ^ 0xF3.
+        self.says("checksum " + "00" * 13 + " 4", "gives 255 195")
+        # One bit from the empty image's 0xA3: fourteen times eight shifts take
+        # 1 over 07 15 6b 16 62 29 df 13 79 68 1f 5d 94 to e5; 0xA3 ^ 0xE5.
+        self.says("checksum fe 4", "gives 255 70")
+
+    def test_checksum_after_setting_the_alias(self):
+        # Alias 1 sets byte 8; six times eight shifts take 1 over 07, 15, 6b,
+        # 16, 62 to 29, and 0x30 ^ 0x29 is 0x19.
+        after = "00" * 8 + "01" + "00" * 5 + "1900"
+        self.says("setalias " + "00" * 14 + "eeee 1", f"gives | {after}")
+        self.says(f"checksum {after} 4", "gives 25 25")
+        self.says("checksum " + "00" * 16 + " 4", "gives 0 48")
+
+    def test_checksum_after_setting_any_alias(self):
+        chance = random.Random(6)
+        for length in range(16, 60):
+            before = chance.randbytes(length)
+            answer = ask(f"setalias {before.hex()} {chance.randrange(65536)}")
+            after = bytes.fromhex(answer.split(" | ")[1])
+            self.says(f"checksum {after.hex()} 8",
+                      f"gives {after[14]} {after[14]}")
+            # One bit of what is summed, and they differ.
+            place = chance.randrange(14)
+            wrong = bytearray(after)
+            wrong[place] ^= 1 << chance.randrange(8)
+            stored, computed = ask(f"checksum {wrong.hex()} 8").split(" ")[1:]
+            self.assertEqual(stored, str(after[14]))
+            self.assertNotEqual(stored, computed)
+
+    # A byte holds its place plus 1, so the first time is 0x04030201, which is
+    # 67,305,985, and the last factor 0x1211, which is 4,625.
+    CLOCK = bytes(range(1, 25))
+    CLOCK_SAYS = " 67305985 134678021 202050057 3597 4111 4625 19 20"
+    # A record that lies past the image.
+    CLOCK_FF = " 4294967295" * 3 + " 65535" * 3 + " 255 255"
 
     def test_clocks(self):
-        one = " 1 2 3 4 5 6 7 8"
-        self.says("clocks - 4", "gives 0")
-        self.says(f"clocks {image((60, self.CLOCK * 8))} 4",
-                  "gives 8" + one * 8)
-        self.says(f"clocks {image((60, self.CLOCK * 8 + bytes(22)))} 4",
-                  "gives 8" + one * 8)
-        self.says(f"clocks {image((60, self.CLOCK * 9))} 8", "refuses 6")
-        self.says("clocks " + "00" * 129 + " 4", "refuses 1")
+        # 1 ms, 10 us, -1 ns as 32 bits; factors -1 and 1; 0x0700 between.
+        other = bytes.fromhex(packed(
+            "40 42 0f 00 10 27 00 00 ff ff ff ff ff ff 00 07 01 00 05 06"
+            "00 00 00 00"))
+        self.says(f"clocks {image((60, self.CLOCK + other))} 4",
+                  "gives 2" + self.CLOCK_SAYS
+                  + " 1000000 10000 4294967295 65535 1792 1 5 6")
+
+    def test_clocks_reserved_bytes(self):
+        for place in (20, 21, 22, 23):
+            record = bytearray(self.CLOCK)
+            record[place] ^= 0xFF
+            self.says(f"clocks {image((60, bytes(record)))} 4",
+                      "gives 1" + self.CLOCK_SAYS)
+
+    def test_clocks_of_no_category(self):
+        self.says(f"clocks {image((30, GENERAL))} 4", "gives 0")
+        self.says(f"clocks {image((0xFFFF, b''), (60, self.CLOCK))} 4",
+                  "gives 0")
+        self.says(f"clocks {image((60, b''))} 4", "gives 0")
+        # The 32nd empty header is absent, though it matches.
+        empty = [(0, b"")]
+        self.says(f"clocks {image(*empty * 31, (60, b''))} 4", "gives 0")
+
+    def test_clocks_of_the_first_category(self):
+        two = image((30, GENERAL), (60, self.CLOCK), (60, self.CLOCK * 9))
+        self.says(f"clocks {two} 4", "gives 1" + self.CLOCK_SAYS)
+
+    def test_clocks_refused_by_the_category(self):
+        self.says(f"clocks {'00' * 129} 4", "refuses 1")
+        start = bytes(128).hex()
+        # Cut after the type: the length reads 0xFFFF.
+        self.says(f"clocks {start}3c00 4", "refuses 1")
+        self.says(f"clocks {start}{header(60, 32702).hex()} 4", "refuses 1")
+        # One word less ends at 65,534: 2,725 records, all 0xFF.
+        self.says(f"clocks {start}{header(60, 32701).hex()} 4", "refuses 6")
+
+    def test_clocks_partial_record_ends_the_list(self):
+        for length in range(2, 24, 2):
+            body = self.CLOCK + self.CLOCK[:length]
+            # What comes after the category is no part of the record.
+            self.says(f"clocks {image((60, body), (1, self.CLOCK))} 4",
+                      "gives 1" + self.CLOCK_SAYS)
+            self.says(f"clocks {image((60, body[24:]))} 4", "gives 0")
+
+    def test_clocks_limit(self):
+        eight = "gives 8" + self.CLOCK_SAYS * 8
+        self.says(f"clocks {image((60, self.CLOCK * 8))} 4", eight)
+        self.says(f"clocks {image((60, self.CLOCK * 9))} 4", "refuses 6")
+        self.says(f"clocks {image((60, self.CLOCK * 20))} 4", "refuses 6")
+        # A partial ninth is no ninth.
+        for length in (2, 22):
+            body = self.CLOCK * 8 + self.CLOCK[:length]
+            self.says(f"clocks {image((60, body))} 4", eight)
+
+    def test_clocks_past_the_image(self):
+        whole = image((60, self.CLOCK))
+        # The image ends behind the header, in shift time 1, before the
+        # description, and in the reserved bytes.
+        self.says(f"clocks {whole[:2 * 132]} 4", "gives 1" + self.CLOCK_FF)
+        self.says(f"clocks {whole[:2 * 142]} 4",
+                  # 0xFFFF0A09
+                  "gives 1 67305985 134678021 4294904329"
+                  " 65535 65535 65535 255 255")
+        self.says(f"clocks {whole[:2 * 151]} 4",
+                  "gives 1 67305985 134678021 202050057 3597 4111 4625 19 255")
+        self.says(f"clocks {whole[:2 * 153]} 4", "gives 1" + self.CLOCK_SAYS)
+
+    def test_clocks_limit_past_the_image(self):
+        # The category's length decides, not the image's.
+        start = bytes(128).hex()
+        line = "clocks " + start + "{} 4"
+        self.says(line.format(header(60, 96).hex()),
+                  "gives 8" + self.CLOCK_FF * 8)
+        self.says(line.format(header(60, 107).hex()),
+                  "gives 8" + self.CLOCK_FF * 8)
+        self.says(line.format(header(60, 108).hex()), "refuses 6")
 
 
 class Strings(Case):
@@ -1152,6 +1331,11 @@ class Lines(Case):
         for line in good:
             self.assertNotEqual(ask(line), "refuses 14")
             self.unreadable(line + " 0", line.rsplit(" ", 1)[0])
+
+    def test_the_longest_line(self):
+        zeros = "0" * (600_000 - len("new  4"))
+        self.says(f"new {zeros} 4", "gives 0 8")
+        self.says(f"new {zeros}0 4", "refuses 14")
 
     def test_any_line_is_answered(self):
         chance = random.Random(5)
