@@ -3,36 +3,16 @@ use Prim.Native.Nat.{ℕ, zero, suc, _+_, _≤_, _<_}
 use native.Mathlib.Nat.{add-zero, add-suc}
 use native.Mathlib.Numerals.{add-one}
 use native.Mathlib.Omega.{arith}
-use mathlib.Core.Path.{_≡_, sym, _∙_}
-use mathlib.Core.List.{List, [], _++_}
+use mathlib.Core.Path.{_≡_, _∙_}
+use mathlib.Core.List.{List, _++_}
 use lib.ListN.{length, length-append}
 use Rattle.wire.specs.Bytes.{laid, overlay}
-use Rattle.wire.proofs.Laws.{laid-whole, length-overlay, overlay-next, overlay-none}
+use Rattle.wire.proofs.Laws.{laid-whole, overlay-next}
+use Rattle.wire.proofs.Stretch.{Front, front-next}
 use Rattle.ports.specs.declared.Ports.{Ports}
 use Rattle.ports.specs.declared.Port.{Port}
 use Rattle.ports.specs.Ports.{portAt, activeAt}
 use Rattle.ports.specs.Display.{opening, closing, wordOf, words, textOf}
-
--- xs with ys laid over it from from on is now; the next word goes to at
-pub record Front (xs : List ℕ) (from : ℕ) (ys now : List ℕ) (at : ℕ) : Type 0 where
-  pub so-far : now ≡ overlay xs from ys
-  pub next : at ≡ from + length ys
-
-pub front-start : (xs : List ℕ) (from : ℕ) → Front xs from [] xs from
-front-start xs from = record { so-far = sym (overlay-none xs from); next = sym (add-zero from) }
-
-pub front-next : {xs : List ℕ} {from : ℕ} {ys now : List ℕ} {at : ℕ} (zs now′ : List ℕ) → Front xs from ys now at → from + length (ys ++ zs) ≤ length xs
-    → now′ ≡ laid now at zs → Front xs from (ys ++ zs) now′ (at + length zs)
-front-next {xs} {from} {ys} {now} {at} zs now′ f h e =
-    let n : from + (length ys + length zs) ≤ length xs = rw length-append at h in
-    let k : from + length ys ≤ length xs = omega arith in
-    let m : from + length ys + length zs ≤ length (overlay xs from ys) = rw (length-overlay xs from ys k) (omega arith) in
-    record {
-      so-far = e ∙ rw (f .so-far, f .next) (laid-whole (overlay xs from ys) (from + length ys) zs m ∙ overlay-next xs from ys zs k);
-      next = rw (f .next, length-append) (omega arith);
-    }
-
--- ---- the words
 
 module _ (p : Ports) where
   grows : (k n : ℕ) → length (words p k) ≤ length (words p (k + n))

@@ -19,7 +19,8 @@ use Rattle.sii.specs.Fixed.{lent, aliasSaid, identityOf, identitySaid, m
 use Rattle.sii.specs.General.{generalOf, generalAdmits, generalIn, generalFound, generalSaid}
 use Rattle.sii.specs.Alias.{SameFrom, AliasKept}
 use Rattle.wire.proofs.Overlay.{overlay-before, overlay-past, overlay-inside, overlay-front, bytes16-back}
-use Rattle.sii.proofs.Same.{categories, same-weaker, field-same, within-same, on-category-same, category-same}
+use Rattle.category.proofs.Same.{categories, category-same, on-category-same}
+use Rattle.sii.proofs.Same.{same-weaker, field-same, within-same}
 
 -- ---- read-outs that look only behind the checksum
 
@@ -64,7 +65,7 @@ module _ (s t : List ℕ) (e : SameFrom categories s t) where
 
   pub found-same : generalFound s ≡ generalFound t
   unfolding generalFound
-  found-same = on-category-same s t e numbers.general (generalIn s) (generalIn t) in-same
+  found-same = on-category-same s t (e .size) (e .bytes) numbers.general (generalIn s) (generalIn t) in-same
 
   pub general-same : generalSaid s ≡ generalSaid t
   unfolding generalSaid
@@ -127,7 +128,7 @@ alias-kept image alias f p =
       identity = identity-same _ _ b;
       mailbox = mailbox-same _ _ b;
       size = size-same _ _ b;
-      category = category-same _ _ c;
+      category = category-same _ _ (c .size) (c .bytes);
       found = found-same _ _ c;
       general = general-same _ _ c;
     })
