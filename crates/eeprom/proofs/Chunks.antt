@@ -13,12 +13,12 @@ use Rattle.eeprom.specs.declared.Chunk.{Chunk}
 use Rattle.eeprom.specs.declared.Chunk.the-variants as chunk
 
 -- a byte of a chunk is the image's
-pub chunk-byte : (image : List ℕ) (w n k : ℕ) → k < n → byteAt (chunkOf image w n) k ≡ byteAt image (2 * w + k)
+chunk-byte : (image : List ℕ) (w n k : ℕ) → k < n → byteAt (chunkOf image w n) k ≡ byteAt image (2 * w + k)
 unfolding chunkOf filled
 chunk-byte image w n k h = byte-span image (2 * w) n k (drop n (replicate 8 0)) h
 
 -- so are m bytes of it
-pub chunk-part : (image : List ℕ) (w n k m : ℕ) → k + m ≤ n → take m (drop k (chunkOf image w n)) ≡ span image (2 * w + k) m
+chunk-part : (image : List ℕ) (w n k m : ℕ) → k + m ≤ n → take m (drop k (chunkOf image w n)) ≡ span image (2 * w + k) m
 unfolding chunkOf filled
 chunk-part image w n k m h = go (n - (k + m)) (omega arith)
   where

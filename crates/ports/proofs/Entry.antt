@@ -1,6 +1,6 @@
 -- Which port is the entry: the rule, which goes place by place, finds the port that IsEntry describes, and only that one.
 -- Idea: after each place, what was kept is the entry of the places passed.
-use Prim.Native.Nat.{ℕ, suc, _+_, _≤_, _<_}
+use Prim.Native.Nat.{ℕ, suc, _≤_, _<_}
 use native.Mathlib.Omega.{arith}
 use mathlib.Core.Path.{_≡_, refl, sym, ap, _∙_}
 use mathlib.Core.Bool.{Bool, true, false}
@@ -8,7 +8,7 @@ use lib.Dec.{ltb, eqb}
 use borrow.Author.Tests.{lt-ltb, ltb-true, ltb-false, eqb-true, eqb-false}
 use Rattle.refusal.specs.Said.{pick}
 use Rattle.ports.specs.declared.Ports.{Ports}
-use Rattle.ports.specs.Ports.{places, nowhere, activeAt, timeAt, folded, taking, sooner, entry}
+use Rattle.ports.specs.Ports.{nowhere, activeAt, timeAt, folded, taking, sooner, entry}
 use Rattle.ports.specs.Meaning.{IsEntry}
 use Rattle.ports.proofs.Laws.{entry-steps}
 

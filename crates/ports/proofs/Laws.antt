@@ -57,13 +57,13 @@ module _ {A : Type 0} (g : ℕ → Bool) (f : A → ℕ → A) where
       go true next = next (f x k)
       go false next = next x
 
-pub folded-map : {A : Type 0} (f : A → ℕ → A) (t : ℕ → ℕ) (x : A) (ks : List ℕ) → folded f x (map t ks) ≡ folded (λ (y : A) (k : ℕ). f y (t k)) x ks
+folded-map : {A : Type 0} (f : A → ℕ → A) (t : ℕ → ℕ) (x : A) (ks : List ℕ) → folded f x (map t ks) ≡ folded (λ (y : A) (k : ℕ). f y (t k)) x ks
 unfolding folded
 folded-map f t x [] = refl
 folded-map f t x (k ∷ ks) = folded-map f t (f x (t k)) ks
 
 module _ (h g : ℕ → Bool) where
-  pub first-those : (ks : List ℕ) → firstThat g (those h ks) ≡ firstThat (λ (k : ℕ). h k && g k) ks
+  first-those : (ks : List ℕ) → firstThat g (those h ks) ≡ firstThat (λ (k : ℕ). h k && g k) ks
   unfolding firstThat those
   first-those [] = refl
   first-those (k ∷ ks) = go (h k) (first-those ks)
@@ -73,7 +73,7 @@ module _ (h g : ℕ → Bool) where
       go true next = ap (pick (g k) k) next
       go false next = next
 
-  pub those-those : (ks : List ℕ) → those g (those h ks) ≡ those (λ (k : ℕ). g k && h k) ks
+  those-those : (ks : List ℕ) → those g (those h ks) ≡ those (λ (k : ℕ). g k && h k) ks
   unfolding those
   those-those [] = refl
   those-those (k ∷ ks) = go (h k) (those-those ks)
@@ -83,7 +83,7 @@ module _ (h g : ℕ → Bool) where
       go true next = rw (and-true (g k)) (ap (λ (l : List ℕ). pick (g k) (k ∷ l) l) next)
       go false next = rw (and-false (g k)) next
 
-pub length-those : (g : ℕ → Bool) (k : ℕ) (ks : List ℕ) → length (those g (k ∷ ks)) ≡ pick (g k) 1 0 + length (those g ks)
+length-those : (g : ℕ → Bool) (k : ℕ) (ks : List ℕ) → length (those g (k ∷ ks)) ≡ pick (g k) 1 0 + length (those g ks)
 unfolding those
 length-those g k ks = go (g k)
   where
@@ -180,7 +180,7 @@ All P [] = Unit {0}
 All P (k ∷ ks) = P k × All P ks
 
 -- what holds of every one that passes a test holds of those that pass it
-pub all-those : (P : ℕ → Type 0) (g : ℕ → Bool) (ks : List ℕ) → All (λ (k : ℕ). g k ≡ true → P k) ks → All P (those g ks)
+all-those : (P : ℕ → Type 0) (g : ℕ → Bool) (ks : List ℕ) → All (λ (k : ℕ). g k ≡ true → P k) ks → All P (those g ks)
 unfolding those
 all-those P g [] a = tt
 all-those P g (k ∷ ks) a = go (g k) refl (all-those P g ks (a .1))

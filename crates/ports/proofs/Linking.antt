@@ -18,7 +18,7 @@ use Rattle.ports.specs.declared.Assigned.{Assigned}
 use Rattle.ports.specs.declared.PortAnswer.the-variants as port
 use Rattle.ports.specs.Ports.{nowhere, numberAt, placeOf, noPort, portAt, activeAt, timeAt, unlinkedAt, firstThat, folded, activePorts, entry, linked, linkSet}
 use Rattle.ports.specs.Answers.{saidPort}
-use Rattle.ports.specs.Assigning.{repeated, assignable, unchanged, taken, assignedOf, assignedSaid}
+use Rattle.ports.specs.Assigning.{repeated, assignable, unchanged, assignedOf, assignedSaid}
 use Rattle.ports.specs.Meaning.{Took}
 use Rattle.ports.proofs.Laws.{All, all-active, entry-steps, number-low, place-number}
 

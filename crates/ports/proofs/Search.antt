@@ -1,9 +1,9 @@
 -- What a search of the repeated list takes: each step of the code leaves it as it was.
 use Prim.Native.Nat.{ℕ, zero, suc, _+_, _-_, _≤_, _<_}
 use native.Mathlib.Omega.{arith}
-use mathlib.Core.Path.{_≡_, refl}
+use mathlib.Core.Path.{_≡_}
 use mathlib.Core.Bool.{true, false}
-use mathlib.Core.List.{List, [], _∷_, _++_}
+use mathlib.Core.List.{List, _∷_, _++_}
 use lib.ListN.{take, drop}
 use lib.Seq.{take-nil, drop-nil}
 use borrow.Author.Tests.{lt-ltb, le-ltb}

@@ -103,7 +103,7 @@ small-sought image index m =
 
 -- ---- the text
 
-pub shown-append : (a b : List ℕ) → shown (a ++ b) ≡ shown a ++ shown b
+shown-append : (a b : List ℕ) → shown (a ++ b) ≡ shown a ++ shown b
 unfolding shown
 shown-append [] b = refl
 shown-append (x ∷ a) b = go (eqb x 0) (shown-append a b)
