@@ -7,7 +7,7 @@ use mathlib.Core.Bool.{Bool, true, false, _&&_, and-true, and-false}
 use mathlib.Core.List.{List, [], _∷_, _++_, map}
 use lib.Dec.{ltb}
 use lib.ListN.{length}
-use borrow.Author.Tests.{lt-ltb, ltb-true, ltb-false}
+use borrow.Author.Tests.{lt-ltb, ltb-true, ltb-false, leb-true}
 use Rattle.refusal.specs.Said.{pick}
 use Rattle.ports.specs.declared.Ports.{Ports}
 use Rattle.ports.specs.declared.Port.{Port}
@@ -16,27 +16,23 @@ use Rattle.ports.specs.Delays.{largest, smallest, spread, total, between
 
 -- ---- a port
 
+-- what holds at each of the four places
+pub at-each : (P : ℕ → Type 0) → P 0 → P 1 → P 2 → P 3 → (k : ℕ) → k < 4 → P k
+at-each P a b c d zero h = a
+at-each P a b c d (suc zero) h = b
+at-each P a b c d (suc (suc zero)) h = c
+at-each P a b c d (suc (suc (suc zero))) h = d
+at-each P a b c d (suc (suc (suc (suc k)))) h = absurd (let z : ⊥ = omega arith in z)
+
 pub place-low : (n : ℕ) → n < 4 → placeOf n < 4
-place-low zero h = omega arith
-place-low (suc zero) h = omega arith
-place-low (suc (suc zero)) h = omega arith
-place-low (suc (suc (suc zero))) h = omega arith
-place-low (suc (suc (suc (suc n)))) h = absurd (let z : ⊥ = omega arith in z)
+place-low = at-each (λ (n : ℕ). placeOf n < 4) (leb-true 1 4 refl) (leb-true 3 4 refl) (leb-true 4 4 refl) (leb-true 2 4 refl)
 
 -- the place of the port at a place
 pub place-number : (k : ℕ) → k < 4 → placeOf (numberAt k) ≡ k
-place-number zero h = refl
-place-number (suc zero) h = refl
-place-number (suc (suc zero)) h = refl
-place-number (suc (suc (suc zero))) h = refl
-place-number (suc (suc (suc (suc k)))) h = absurd (let z : ⊥ = omega arith in z)
+place-number = at-each (λ (k : ℕ). placeOf (numberAt k) ≡ k) refl refl refl refl
 
 pub number-low : (k : ℕ) → k < 4 → numberAt k < 4
-number-low zero h = omega arith
-number-low (suc zero) h = omega arith
-number-low (suc (suc zero)) h = omega arith
-number-low (suc (suc (suc zero))) h = omega arith
-number-low (suc (suc (suc (suc k)))) h = absurd (let z : ⊥ = omega arith in z)
+number-low = at-each (λ (k : ℕ). numberAt k < 4) (leb-true 1 4 refl) (leb-true 4 4 refl) (leb-true 2 4 refl) (leb-true 3 4 refl)
 
 pub active-is : {q r : Port} {b : Bool} → q ≡ r → q .active ≡ b → r .active ≡ b
 active-is e h = rw e at h

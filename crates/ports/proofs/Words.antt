@@ -15,7 +15,7 @@ use Rattle.ports.specs.declared.Ports.{Ports}
 use Rattle.ports.specs.declared.Port.{Port}
 use Rattle.ports.specs.Ports.{portAt, activeAt, activePorts}
 use Rattle.ports.specs.Display.{opening, closing, wordOf, words, textOf}
-use Rattle.ports.proofs.Laws.{count-steps}
+use Rattle.ports.proofs.Laws.{at-each, count-steps}
 
 -- an active port's word is two bytes shorter
 word-length : (b : Bool) → length (wordOf b) + 2 * pick b 1 0 ≡ 7
@@ -31,11 +31,7 @@ module _ (p : Ports) where
 
   grows-to : (k : ℕ) → k < 4 → length (words p k ++ wordOf (activeAt p k)) ≤ length (words p 4)
   unfolding words
-  grows-to zero h = grows 1 3
-  grows-to (suc zero) h = grows 2 2
-  grows-to (suc (suc zero)) h = grows 3 1
-  grows-to (suc (suc (suc zero))) h = grows 4 0
-  grows-to (suc (suc (suc (suc k)))) h = absurd (let z : ⊥ = omega arith in z)
+  grows-to = at-each (λ (k : ℕ). length (words p k ++ wordOf (activeAt p k)) ≤ length (words p 4)) (grows 1 3) (grows 2 2) (grows 3 1) (grows 4 0)
 
   pub length-text : 37 - 2 * length (activePorts p) ≡ length (textOf p)
   unfolding textOf words
