@@ -1,9 +1,8 @@
 -- The definitions say what the bench measured, in every case of the table: one test, computed over the whole of it, and a law that turns it into equations.
 use mathlib.Core.Path.{_≡_, refl, ap}
-use mathlib.Core.Bool.{Bool, true, false, _&&_, false≢true}
+use mathlib.Core.Bool.{true, false≢true}
 use mathlib.Core.List.{List, [], _∷_}
 use Prim.Native.Nat.{ℕ}
-use lib.Dec.{eqb}
 use borrow.Author.Tests.{eqb-true}
 use Rattle.refusal.specs.Said.{Said, gives, absent, refuses, on2, on3}
 use Rattle.refusal.proofs.Tests.{both}
@@ -49,7 +48,7 @@ same-said (refuses n l) (refuses k m) e =
     let h : n ≡ k = eqb-true _ _ (p .0) in
     rw (h, same-list l m (p .1)) refl
 
-pub agreed : (cs : List Case) → agrees cs ≡ true → Agreed cs
+agreed : (cs : List Case) → agrees cs ≡ true → Agreed cs
 unfolding agrees Agreed
 agreed [] e = tt
 agreed (c ∷ cs) e =

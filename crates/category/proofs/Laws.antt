@@ -95,20 +95,20 @@ module _ (image : List ℕ) (number w e : ℕ) where
           }
 
   -- a header of the number sought
-  pub step-match : w + headerWords ≤ wordMost → counted (lengthAt image w) e < emptyMost → typeAt image w ≡ number →
+  step-match : w + headerWords ≤ wordMost → counted (lengthAt image w) e < emptyMost → typeAt image w ≡ number →
       stepped image number w e ≡ done (newSaid (w + headerWords) (lengthAt image w))
   unfolding stepped
   step-match i f t = decided-match (typeAt image w) (lengthAt image w) number (w + headerWords) (counted (lengthAt image w) e) i f t
 
   -- a header of another number
-  pub step-other : (w′ e′ : ℕ) → Passes image number w e w′ e′ → stepped image number w e ≡ next w′ e′
+  step-other : (w′ e′ : ℕ) → Passes image number w e w′ e′ → stepped image number w e ≡ next w′ e′
   unfolding stepped
   step-other w′ e′ p =
       rw (p .there, p .count)
       (decided-other (typeAt image w) (lengthAt image w) number (w + headerWords) (counted (lengthAt image w) e) (omega (arith, p .there, p .inside)) (omega (arith, p .count, p .few)) (p .other) (p .unmarked))
 
   -- the mark behind the last category
-  pub step-mark : (number ≡ endMark → ⊥) → typeAt image w ≡ endMark → stepped image number w e ≡ done absent
+  step-mark : (number ≡ endMark → ⊥) → typeAt image w ≡ endMark → stepped image number w e ≡ done absent
   unfolding stepped
   step-mark n t = decided-mark (typeAt image w) (lengthAt image w) number (w + headerWords) (counted (lengthAt image w) e) n t
 

@@ -1,4 +1,5 @@
 pub mod Laws
 pub mod First
+pub mod Same
 pub mod Unique
 pub mod Bench

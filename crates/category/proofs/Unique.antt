@@ -7,12 +7,12 @@ use Rattle.category.specs.Answers.{saidFound}
 use Rattle.category.specs.declared.Found.{Found}
 use Rattle.category.specs.declared.Found.the-variants as found
 
-unfoldable pub foundOf : Said → Found
+unfoldable foundOf : Said → Found
 foundOf (gives l) = found.At (record { «byte_pos» = getD l 0 0; end = getD l 1 0 })
 foundOf absent = found.Absent
 foundOf (refuses n l) = found.No (refusalOf n l)
 
-pub found-back : (r : Found) → foundOf (saidFound r) ≡ r
+found-back : (r : Found) → foundOf (saidFound r) ≡ r
 unfolding foundOf
 found-back (found.At g) = refl
 found-back found.Absent = refl

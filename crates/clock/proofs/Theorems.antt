@@ -7,7 +7,8 @@ use Rattle.refusal.specs.Said.{gives}
 use Rattle.category.specs.Numbers as numbers
 use Rattle.sii.specs.Fixed.{checksumEnd, setSaid, setImage}
 use Rattle.sii.specs.Alias.{SameFrom}
-use Rattle.sii.proofs.Same.{categories, same-weaker}
+use Rattle.category.proofs.Same.{categories}
+use Rattle.sii.proofs.Same.{same-weaker}
 use Rattle.sii.proofs.Alias.{alias-kept}
 use Rattle.lists.specs.Records.{holds}
 use Rattle.lists.specs.Inside.{Inside, SameIn}

@@ -1,33 +1,24 @@
 -- A byte of a chunk, and a stretch of its bytes, is the image's, whatever the chunk's width: by the laws of spans.
-use Prim.Native.Nat.{ℕ, zero, suc, _+_, _-_, _*_, _/_, _%_, _≤_, _<_}
-use native.Mathlib.Nat.{not-suc-le-zero, le-of-suc-le-suc, add-zero}
+use Prim.Native.Nat.{ℕ, _+_, _-_, _*_, _/_, _%_, _≤_, _<_}
 use native.Mathlib.Omega.{arith}
 use mathlib.Core.Path.{_≡_, ap, _∙_}
 use mathlib.Core.List.{List, _++_, append-assoc}
 use lib.ListN.{length, take, drop, replicate}
-use lib.Seq.{take-at, drop-at, drop-drop}
+use lib.Seq.{take-at, drop-at}
 use Rattle.wire.specs.Bytes.{byteAt, le16, le32, span, filled, overlay, laid}
 use Rattle.wire.proofs.Laws.{length-span, span-add, laid-whole}
+use Rattle.wire.proofs.Stretch.{byte-span}
 use Rattle.eeprom.specs.Image.{chunkOf, widthOf}
 use Rattle.eeprom.specs.declared.Chunk.{Chunk}
 use Rattle.eeprom.specs.declared.Chunk.the-variants as chunk
 
--- ---- a chunk
-
-byte-span : (s : List ℕ) (i n k : ℕ) (rest : List ℕ) → k < n → byteAt (span s i n ++ rest) k ≡ byteAt s (i + k)
-unfolding byteAt span
-byte-span s i zero k rest h = absurd (not-suc-le-zero h)
-byte-span s i (suc n) zero rest h = rw (add-zero i)
-byte-span s i (suc n) (suc k) rest h =
-    byte-span s (suc i) n k rest (le-of-suc-le-suc h) ∙ ap (byteAt s) (let z : suc i + k ≡ i + suc k = omega arith in z)
-
 -- a byte of a chunk is the image's
-pub chunk-byte : (image : List ℕ) (w n k : ℕ) → k < n → byteAt (chunkOf image w n) k ≡ byteAt image (2 * w + k)
+chunk-byte : (image : List ℕ) (w n k : ℕ) → k < n → byteAt (chunkOf image w n) k ≡ byteAt image (2 * w + k)
 unfolding chunkOf filled
 chunk-byte image w n k h = byte-span image (2 * w) n k (drop n (replicate 8 0)) h
 
 -- so are m bytes of it
-pub chunk-part : (image : List ℕ) (w n k m : ℕ) → k + m ≤ n → take m (drop k (chunkOf image w n)) ≡ span image (2 * w + k) m
+chunk-part : (image : List ℕ) (w n k m : ℕ) → k + m ≤ n → take m (drop k (chunkOf image w n)) ≡ span image (2 * w + k) m
 unfolding chunkOf filled
 chunk-part image w n k m h = go (n - (k + m)) (omega arith)
   where
@@ -85,16 +76,3 @@ chunk-laid image bytes buf out c pos m at e h k q =
     chunk-part image (pos / 2) (widthOf c) (pos % 2) m h ∙ ap (λ (i : ℕ). span image i m) (halves pos) in
     let fits : at + length (span image pos m) ≤ length buf = rw (length-span image pos m) k in
     rw (q, n, e, part, laid-whole buf at (span image pos m) fits)
-
--- ---- a buffer filled by n bytes, and the next m laid behind them
-pub filled-next : (s : List ℕ) (i n m : ℕ) (buf : List ℕ) → overlay (filled s i n buf) n (span s (i + n) m) ≡ filled s i (n + m) buf
-unfolding filled overlay
-filled-next s i n m buf =
-    rw (
-      length-span s (i + n) m,
-      take-at (span s i n) (drop n buf) n (length-span s i n),
-      ← drop-drop m n (span s i n ++ drop n buf),
-      drop-at (span s i n) (drop n buf) n (length-span s i n),
-      drop-drop,
-      span-add,
-    )

@@ -1,4 +1,4 @@
--- Laws of a range's rules, which callers cite in place of the definitions: what each call says inside its bounds, and outside.
+-- Laws of a range's rules, for callers to cite in place of the definitions: what each call says inside its bounds, and outside.
 -- The law of a byte read is stated for positions before the end.
 use Prim.Native.Nat.{ℕ, _+_, _-_, _*_, _%_, _≤_, _<_, min, max}
 use native.Mathlib.Omega.{arith}

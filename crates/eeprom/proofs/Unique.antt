@@ -43,12 +43,12 @@ at l i j = record { «byte_pos» = getD l i 0; end = getD l j 0 }
 
 -- ---- a range that was asked for
 
-unfoldable pub rangeOf : Said → RangeAnswer
+unfoldable rangeOf : Said → RangeAnswer
 rangeOf (gives l) = range.Made (at l 0 1)
 rangeOf absent = range.No Address
 rangeOf (refuses n l) = range.No (refusalOf n l)
 
-pub range-back : (r : RangeAnswer) → rangeOf (saidRange r) ≡ r
+range-back : (r : RangeAnswer) → rangeOf (saidRange r) ≡ r
 unfolding rangeOf
 range-back (range.Made g) = refl
 range-back (range.No x) = ap range.No (back x)
@@ -58,12 +58,12 @@ range-unique a b s p q = sym (range-back a) ∙ ap rangeOf (p ∙ sym q) ∙ ran
 
 -- ---- a byte
 
-unfoldable pub byteOf : Said → ByteAnswer
+unfoldable byteOf : Said → ByteAnswer
 byteOf (gives l) = byte.Byte (getD l 0 0) (at l 1 2)
 byteOf absent = byte.No Address
 byteOf (refuses n l) = byte.No (refusalOf n l)
 
-pub byte-back : (r : ByteAnswer) → byteOf (saidByte r) ≡ r
+byte-back : (r : ByteAnswer) → byteOf (saidByte r) ≡ r
 unfolding byteOf
 byte-back (byte.Byte b g) = refl
 byte-back (byte.No x) = ap byte.No (back x)
@@ -73,12 +73,12 @@ byte-unique a b s p q = sym (byte-back a) ∙ ap byteOf (p ∙ sym q) ∙ byte-b
 
 -- ---- a read
 
-unfoldable pub readingOf : Said → Reading
+unfoldable readingOf : Said → Reading
 readingOf (gives l) = reading.Took (getD l 0 0) (at l 1 2)
 readingOf absent = reading.No Address
 readingOf (refuses n l) = reading.No (refusalOf n l)
 
-pub reading-back : (r : Reading) → readingOf (saidReading r) ≡ r
+reading-back : (r : Reading) → readingOf (saidReading r) ≡ r
 unfolding readingOf
 reading-back (reading.Took n g) = refl
 reading-back (reading.No x) = ap reading.No (back x)
@@ -88,7 +88,7 @@ reading-unique a b s p q = sym (reading-back a) ∙ ap readingOf (p ∙ sym q) �
 
 -- ---- a refusal that comes with the range: it has values, where the refusal of that number alone has none
 
-unfoldable pub moved : ℕ → ℕ → List ℕ → Bool
+unfoldable moved : ℕ → ℕ → List ℕ → Bool
 moved k n l = ltb 0 (length l) && eqb n k
 
 moved-not : (k : ℕ) → eqb 4 k ≡ false → (x : Refusal) → moved k (numberOf x) (valuesOf x) ≡ false
@@ -110,12 +110,12 @@ moved-not k h BadArgument = refl
 
 -- ---- an exact read
 
-unfoldable pub exactOf : Said → Exact
+unfoldable exactOf : Said → Exact
 exactOf (gives l) = exact.Full (at l 0 1)
 exactOf absent = exact.No Address
 exactOf (refuses n l) = pick (moved 2 n l) (exact.Short (at l 0 1)) (exact.No (refusalOf n l))
 
-pub exact-back : (r : Exact) → exactOf (saidExact r) ≡ r
+exact-back : (r : Exact) → exactOf (saidExact r) ≡ r
 unfolding exactOf moved
 exact-back (exact.Full g) = refl
 exact-back (exact.Short g) = refl
@@ -126,12 +126,12 @@ exact-unique a b s p q = sym (exact-back a) ∙ ap exactOf (p ∙ sym q) ∙ exa
 
 -- ---- a write
 
-unfoldable pub writingOf : Said → Writing
+unfoldable writingOf : Said → Writing
 writingOf (gives l) = writing.Written (getD l 0 0) (at l 1 2)
 writingOf absent = writing.No Address
 writingOf (refuses n l) = pick (moved 7 n l) (writing.Stopped (at l 0 1)) (writing.No (refusalOf n l))
 
-pub writing-back : (r : Writing) → writingOf (saidWriting r) ≡ r
+writing-back : (r : Writing) → writingOf (saidWriting r) ≡ r
 unfolding writingOf moved
 writing-back (writing.Written n g) = refl
 writing-back (writing.Stopped g) = refl

@@ -86,7 +86,7 @@ length-write image pos end bytes = go (fine image end)
 
 -- ---- whole words that fit are laid over the image
 
-pub wrote-whole : (bytes image : List ℕ) (n pos end : ℕ) → pos % 2 ≡ 0 → length bytes % 2 ≡ 0 → pos + length bytes ≤ end → pos + length bytes ≤ length image
+wrote-whole : (bytes image : List ℕ) (n pos end : ℕ) → pos % 2 ≡ 0 → length bytes % 2 ≡ 0 → pos + length bytes ≤ end → pos + length bytes ≤ length image
     → wrote image n pos end (words bytes) ≡ over (overlay image pos bytes) (n + length bytes) (pos + length bytes) end
 unfolding wrote words
 wrote-whole [] image n pos end e z h k =

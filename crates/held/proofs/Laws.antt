@@ -23,7 +23,7 @@ use Rattle.refusal.specs.declared.Refusal.the-variants.{
 use Rattle.held.specs.Range.{alone, stands, ends}
 
 -- an answer and a position are what the core says, s, of a range that stood at pos
-abbrev pub Apart : Said → ℕ → ℕ → Said → Type 0
+abbrev Apart : Said → ℕ → ℕ → Said → Type 0
 Apart answer after pos s = (answer ≡ alone s) × (after ≡ stands pos s)
 
 -- a range alone

@@ -14,12 +14,12 @@ use Rattle.held.specs.declared.Counted.the-variants as counted
 
 -- ---- an outcome
 
-unfoldable pub outcomeOf : Said → Outcome
+unfoldable outcomeOf : Said → Outcome
 outcomeOf (gives l) = outcome.Done
 outcomeOf absent = outcome.No BadArgument
 outcomeOf (refuses n l) = outcome.No (refusalOf n l)
 
-pub outcome-back : (r : Outcome) → outcomeOf (saidOutcome r) ≡ r
+outcome-back : (r : Outcome) → outcomeOf (saidOutcome r) ≡ r
 unfolding outcomeOf
 outcome-back outcome.Done = refl
 outcome-back (outcome.No x) = ap outcome.No (back x)
@@ -29,12 +29,12 @@ outcome-unique a b s p q = sym (outcome-back a) ∙ ap outcomeOf (p ∙ sym q) �
 
 -- ---- a byte
 
-unfoldable pub byteReadOf : Said → ByteRead
+unfoldable byteReadOf : Said → ByteRead
 byteReadOf (gives l) = byte.Byte (getD l 0 0)
 byteReadOf absent = byte.No BadArgument
 byteReadOf (refuses n l) = byte.No (refusalOf n l)
 
-pub byte-read-back : (r : ByteRead) → byteReadOf (saidByteRead r) ≡ r
+byte-read-back : (r : ByteRead) → byteReadOf (saidByteRead r) ≡ r
 unfolding byteReadOf
 byte-read-back (byte.Byte b) = refl
 byte-read-back (byte.No x) = ap byte.No (back x)
@@ -44,12 +44,12 @@ byte-read-unique a b s p q = sym (byte-read-back a) ∙ ap byteReadOf (p ∙ sym
 
 -- ---- a count
 
-unfoldable pub countedOf : Said → Counted
+unfoldable countedOf : Said → Counted
 countedOf (gives l) = counted.Bytes (getD l 0 0)
 countedOf absent = counted.No BadArgument
 countedOf (refuses n l) = counted.No (refusalOf n l)
 
-pub counted-back : (r : Counted) → countedOf (saidCounted r) ≡ r
+counted-back : (r : Counted) → countedOf (saidCounted r) ≡ r
 unfolding countedOf
 counted-back (counted.Bytes n) = refl
 counted-back (counted.No x) = ap counted.No (back x)

@@ -7,9 +7,10 @@ use lib.ListN.{getD}
 use Rattle.refusal.specs.Said.{Said, gives, absent, refuses}
 use Rattle.category.specs.Numbers as numbers
 use Rattle.category.specs.Category.{categorySaid}
+use Rattle.category.proofs.Same.{categories, Behind, category-same, category-behind}
 use Rattle.sii.specs.Fixed.{checksumEnd, setSaid, setImage}
 use Rattle.sii.specs.Alias.{SameFrom}
-use Rattle.sii.proofs.Same.{categories, same-weaker, Behind, category-same, category-behind}
+use Rattle.sii.proofs.Same.{same-weaker}
 use Rattle.sii.proofs.Alias.{alias-kept}
 use Rattle.lists.specs.Records.{Item, records, inCategory}
 use Rattle.lists.specs.Inside.{SameIn, Moves, Local, ListsKept}
@@ -27,7 +28,7 @@ module _ (s t : List ℕ) (e : SameFrom categories s t) where
   pub list-same : {R : Type 0} (item : List ℕ → ℕ → ℕ → Item R) → Moves item → Local item → (most number : ℕ) (cut : ℕ → ℕ → ℕ) →
       inCategory (categorySaid s number) (λ p end. records (item s (cut p end)) most p) ≡ inCategory (categorySaid t number) (λ p end. records (item t (cut p end)) most p)
   unfolding inCategory
-  list-same item m c most number cut = rw (category-same s t e number) (go (categorySaid t number) (category-behind t number))
+  list-same item m c most number cut = rw (category-same s t (e .size) (e .bytes) number) (go (categorySaid t number) (category-behind t number))
     where
       go : (x : Said) → Behind x →
           inCategory x (λ p end. records (item s (cut p end)) most p) ≡ inCategory x (λ p end. records (item t (cut p end)) most p)

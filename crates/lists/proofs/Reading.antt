@@ -11,7 +11,7 @@ use Rattle.refusal.specs.Said.{pick}
 use Rattle.wire.specs.Bytes.{byteAt, Bytes}
 use Rattle.sii.specs.Layout.{Field, byte, word, long, field}
 use Rattle.lists.specs.Layout.{physicalStartAddress, smLength, controlRegister, enableSyncM, syncMType, fmmuUsage, exSyncM, pdoIndex, nEntry, pdoSyncM}
-use Rattle.lists.specs.Records.{one, none, bad}
+use Rattle.lists.specs.Records.{Item, one, none, bad}
 use Rattle.lists.specs.Inside.{SameIn, Moves, Local}
 use Rattle.lists.specs.SyncManagers.{smOf, smAdmits, smAt}
 use Rattle.lists.specs.Fmmus.{usageAdmits, usageOf, usageAt, exAt, fmmuAt}
@@ -28,23 +28,23 @@ ends-in true true r r′ q q′ p = (refl, refl, cc, cc)
 ends-in true false r r′ q q′ p = (refl, cc, cc, cc)
 ends-in false u r r′ q q′ p = (cc, cc, cc, cc)
 
+-- .. n bytes on, if these lie before the end
+sized-moves : {R : Type 0} (end p n : ℕ) (u : Bool) (r r′ : R) (q : ℕ) → 0 < n → one r q ≡ pick (leb (p + n) end) (pick u (one r′ (p + n)) bad) none → (p < q) × (q ≤ end)
+sized-moves end p n u r r′ q h e =
+    let f = ends-in (leb (p + n) end) u r r′ q (p + n) e in
+    (omega (arith, f .2), omega (arith, f .2, leb-true (p + n) end (f .0)))
+
 pub sm-moves : Moves smAt
 unfolding smAt
-sm-moves image end p r q e =
-    let f = ends-in (leb (p + 8) end) (smAdmits (smOf image p)) r (smOf image p) q (p + 8) e in
-    (omega (arith, f .2), omega (arith, f .2, leb-true (p + 8) end (f .0)))
+sm-moves image end p r q e = sized-moves end p 8 (smAdmits (smOf image p)) r (smOf image p) q (omega arith) e
 
 pub usage-moves : Moves usageAt
 unfolding usageAt
-usage-moves image end p r q e =
-    let f = ends-in (leb (p + 1) end) (usageAdmits (field image p fmmuUsage)) r (usageOf (field image p fmmuUsage)) q (p + 1) e in
-    (omega (arith, f .2), omega (arith, f .2, leb-true (p + 1) end (f .0)))
+usage-moves image end p r q e = sized-moves end p 1 (usageAdmits (field image p fmmuUsage)) r (usageOf (field image p fmmuUsage)) q (omega arith) e
 
 pub ex-moves : Moves exAt
 unfolding exAt
-ex-moves image end p r q e =
-    let f = ends-in (leb (p + 3) end) true r (field image p exSyncM) q (p + 3) e in
-    (omega (arith, f .2), omega (arith, f .2, leb-true (p + 3) end (f .0)))
+ex-moves image end p r q e = sized-moves end p 3 true r (field image p exSyncM) q (omega arith) e
 
 pub fmmu-moves : (k : FmmuKind) → Moves (fmmuAt k)
 fmmu-moves kind.Usage = usage-moves
@@ -86,32 +86,22 @@ sm-same s t end p e h =
       field-in s t end p e syncMType (omega arith),
     )
 
+-- what a test lets through is the same, if it is where the test holds
+same-if : {R : Type 0} (t : Bool) (a b : Item R) (else : Item R) → (t ≡ true → a ≡ b) → pick t a else ≡ pick t b else
+same-if true a b else h = h refl
+same-if false a b else h = refl
+
 pub sm-local : Local smAt
 unfolding smAt
-sm-local s t end p e = go (leb (p + 8) end) refl
-  where
-    go : (b : Bool) → leb (p + 8) end ≡ b →
-        pick b (pick (smAdmits (smOf s p)) (one (smOf s p) (p + 8)) bad) none ≡ pick b (pick (smAdmits (smOf t p)) (one (smOf t p) (p + 8)) bad) none
-    go true h = rw (sm-same s t end p e (leb-true (p + 8) end h))
-    go false h = refl
+sm-local s t end p e = same-if (leb (p + 8) end) _ _ none (λ h. rw (sm-same s t end p e (leb-true (p + 8) end h)))
 
 pub usage-local : Local usageAt
 unfolding usageAt
-usage-local s t end p e = go (leb (p + 1) end) refl
-  where
-    go : (b : Bool) → leb (p + 1) end ≡ b →
-        pick b (pick (usageAdmits (field s p fmmuUsage)) (one (usageOf (field s p fmmuUsage)) (p + 1)) bad) none
-        ≡ pick b (pick (usageAdmits (field t p fmmuUsage)) (one (usageOf (field t p fmmuUsage)) (p + 1)) bad) none
-    go true h = rw (field-in s t end p e fmmuUsage (omega (arith, leb-true (p + 1) end h)))
-    go false h = refl
+usage-local s t end p e = same-if (leb (p + 1) end) _ _ none (λ h. rw (field-in s t end p e fmmuUsage (omega (arith, leb-true (p + 1) end h))))
 
 pub ex-local : Local exAt
 unfolding exAt
-ex-local s t end p e = go (leb (p + 3) end) refl
-  where
-    go : (b : Bool) → leb (p + 3) end ≡ b → pick b (one (field s p exSyncM) (p + 3)) none ≡ pick b (one (field t p exSyncM) (p + 3)) none
-    go true h = rw (field-in s t end p e exSyncM (omega (arith, leb-true (p + 3) end h)))
-    go false h = refl
+ex-local s t end p e = same-if (leb (p + 3) end) _ _ none (λ h. rw (field-in s t end p e exSyncM (omega (arith, leb-true (p + 3) end h))))
 
 entries-same : (s t : List ℕ) (end p : ℕ) → SameIn p end s t → p + 8 ≤ end → entriesOf s p ≡ entriesOf t p
 unfolding entriesOf
@@ -135,20 +125,9 @@ pdo-same s t end p e h =
 
 pub pdo-local : Local pdoAt
 unfolding pdoAt
-pdo-local s t end p e = go (leb (p + 8) end) refl
-  where
-    inner : entriesOf s p ≡ entriesOf t p → (b : Bool) → leb (p + 8 + 8 * entriesOf t p) end ≡ b →
-        pick b (one (pdoOf s p) (p + 8 + 8 * entriesOf t p)) bad ≡ pick b (one (pdoOf t p) (p + 8 + 8 * entriesOf t p)) bad
-    inner n true h = rw (pdo-same s t end p e (leb-true _ _ h))
-    inner n false h = refl
-
-    go : (b : Bool) → leb (p + 8) end ≡ b →
-        pick b (pick (leb (p + 8 + 8 * entriesOf s p) end) (one (pdoOf s p) (p + 8 + 8 * entriesOf s p)) bad) none
-        ≡ pick b (pick (leb (p + 8 + 8 * entriesOf t p) end) (one (pdoOf t p) (p + 8 + 8 * entriesOf t p)) bad) none
-    go true h =
-        let n : entriesOf s p ≡ entriesOf t p = entries-same s t end p e (leb-true (p + 8) end h) in
-        rw n (inner n (leb (p + 8 + 8 * entriesOf t p) end) refl)
-    go false h = refl
+pdo-local s t end p e =
+    same-if (leb (p + 8) end) _ _ none (λ h.
+    rw (entries-same s t end p e (leb-true (p + 8) end h)) (same-if (leb (pdoEnd t p) end) _ _ bad (λ k. rw (pdo-same s t end p e (leb-true (pdoEnd t p) end k)))))
 
 -- ---- the sum of bit lengths
 

@@ -262,15 +262,8 @@ fn usages_in(image: &[u8], chunk: Chunk, start: u32, end: u32) -> FmmuList
     requires { ⌜ (start ≤ 1000000) × (end ≤ 1000000) ⌝ }
     ensures { λ r. ⌜ backFmmus r ≡ back 0 fmmuMost (records (usageAt (now (image .entry)) (min end (start + fmmuMost))) fmmuMost start) ⌝ }
 {
-    let stop = lesser(end, start + 16);
+    let stop = wire::lesser(end as usize, start as usize + 16) as u32;
     fmmus_in(image, chunk, FmmuKind::Usage, start, stop)
-}
-
-// The smaller of two.
-fn lesser(a: u32, b: u32) -> u32
-    ensures { λ r. ⌜ r ≡ min a b ⌝ }
-{
-    if a < b { a } else { b }
 }
 
 // The list of a category from start to end.

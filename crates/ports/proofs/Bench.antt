@@ -1,4 +1,4 @@
--- Document 01's bench cases on ports, and what DECISIONS says of a record that no call made, in the definitions: each is computed.
+-- Document 01's bench cases on ports that are not marked P (the crate `bench` has those), and what DECISIONS says of a record that no call made: each is computed.
 use Prim.Native.Nat.{ℕ}
 use native.Mathlib.Nat.{le-refl}
 use mathlib.Core.Path.{_≡_, refl, ap, _∙_}
@@ -11,19 +11,9 @@ use Rattle.ports.specs.declared.Link.the-variants.{To}
 use Rattle.ports.specs.declared.Ports.{Ports}
 use Rattle.ports.specs.Answers.{entrySaid}
 use Rattle.ports.specs.Ports.{noPort, those, firstThat, folded, earliest, activePorts, entry, fresh, timesSet, linkSet}
-use Rattle.ports.specs.Delays.{largest, smallest, spread, delaySaid, total, totalSaid, activeBetween, timeTo, timeToSaid, gap, gaps, sumSaid, intermediateSaid}
+use Rattle.ports.specs.Delays.{largest, smallest, spread, delaySaid, activeBetween, timeTo, timeToSaid, gap, gaps, sumSaid, intermediateSaid}
 use Rattle.ports.specs.Assigning.{repeated, assignable, assignedOf, assignedSaid}
 use Rattle.ports.specs.Display.{wordOf, words, textOf}
-
--- all four active, 100 200 300 400 by place
-unfoldable pub four : Ports
-unfolding fresh timesSet
-four = timesSet (fresh true true true true) 100 200 300 400
-
--- active 0, 3, 2 at 10, 30, 90; the time of port 1 does not matter
-unfoldable pub three : ℕ → Ports
-unfolding fresh timesSet
-three t = timesSet (fresh true true false true) 10 30 t 90
 
 -- active 0 and 3, equal times
 unfoldable pub two : ℕ → Ports
@@ -39,12 +29,13 @@ abbrev after : Ports → ℕ → Ports
 after p d = assignedOf p d .ports
 
 pub record Bench (t : ℕ) : Type 0 where
-  pub four-total : totalSaid four ≡ gives (300 ∷ [])
-  pub four-between : intermediateSaid four 1 ≡ gives (200 ∷ [])
-  pub three-between : intermediateSaid (three t) 2 ≡ gives (20 ∷ [])
-  pub three-to : timeToSaid (three t) 2 ≡ gives (80 ∷ [])
+  -- all four active, 100 200 300 400 by place: intermediate to port 1
+  pub four-between : intermediateSaid (timesSet (fresh true true true true) 100 200 300 400) 1 ≡ gives (200 ∷ [])
+  -- active 0, 3, 2 at 10, 30, 90, the time of port 1 any: to port 2
+  pub three-to : timeToSaid (timesSet (fresh true true false true) 10 30 t 90) 2 ≡ gives (80 ∷ [])
   pub shown : textOf (fresh true false true false) ≡
       112 ∷ 111 ∷ 114 ∷ 116 ∷ 115 ∷ 32 ∷ 91 ∷ 32 ∷ 111 ∷ 112 ∷ 101 ∷ 110 ∷ 32 ∷ 99 ∷ 108 ∷ 111 ∷ 115 ∷ 101 ∷ 100 ∷ 32 ∷ 111 ∷ 112 ∷ 101 ∷ 110 ∷ 32 ∷ 99 ∷ 108 ∷ 111 ∷ 115 ∷ 101 ∷ 100 ∷ 32 ∷ 93 ∷ []
+  -- links go to port 3, then 0, then absent
   pub two-first : assignedSaid (two t) 1 ≡ gives (3 ∷ [])
   pub two-second : assignedSaid (after (two t) 1) 2 ≡ gives (0 ∷ [])
   pub two-third : assignedSaid (after (after (two t) 1) 2) 3 ≡ absent
@@ -74,12 +65,10 @@ module _ (t : ℕ) where
   third = rw same
 
   pub bench : Bench t
-  unfolding four three two those firstThat folded earliest activePorts entry fresh timesSet linkSet largest smallest spread delaySaid total totalSaid activeBetween timeTo timeToSaid gap gaps sumSaid intermediateSaid repeated assignable assignedSaid wordOf words textOf stray entrySaid
+  unfolding two those firstThat folded earliest activePorts entry fresh timesSet linkSet largest smallest spread delaySaid activeBetween timeTo timeToSaid gap gaps sumSaid intermediateSaid repeated assignable assignedSaid wordOf words textOf stray entrySaid
   bench =
       record {
-        four-total = refl;
         four-between = refl;
-        three-between = refl;
         three-to = refl;
         shown = refl;
         two-first = rw same;

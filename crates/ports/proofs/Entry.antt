@@ -1,14 +1,14 @@
 -- Which port is the entry: the rule, which goes place by place, finds the port that IsEntry describes, and only that one.
 -- Idea: after each place, what was kept is the entry of the places passed.
-use Prim.Native.Nat.{ℕ, suc, _+_, _≤_, _<_}
+use Prim.Native.Nat.{ℕ, suc, _≤_, _<_}
 use native.Mathlib.Omega.{arith}
-use mathlib.Core.Path.{_≡_, refl, sym, ap, _∙_}
-use mathlib.Core.Bool.{Bool, true, false}
+use mathlib.Core.Path.{_≡_, refl, sym, _∙_}
+use mathlib.Core.Bool.{Bool, true, false, true≢false}
 use lib.Dec.{ltb, eqb}
 use borrow.Author.Tests.{lt-ltb, ltb-true, ltb-false, eqb-true, eqb-false}
 use Rattle.refusal.specs.Said.{pick}
 use Rattle.ports.specs.declared.Ports.{Ports}
-use Rattle.ports.specs.Ports.{places, nowhere, activeAt, timeAt, folded, taking, sooner, entry}
+use Rattle.ports.specs.Ports.{nowhere, activeAt, timeAt, folded, taking, sooner, entry}
 use Rattle.ports.specs.Meaning.{IsEntry}
 use Rattle.ports.proofs.Laws.{entry-steps}
 
@@ -20,7 +20,7 @@ module _ (p : Ports) where
         → ((j : ℕ) → j < b → activeAt p j ≡ true → timeAt p b < timeAt p j) → Kept n b
 
   clash : {A : Type 0} (x : Bool) → x ≡ true → x ≡ false → A
-  clash x a b = absurd (let z : _≡_ {A = ℕ} 0 1 = (let w : true ≡ false = sym a ∙ b in ap (λ (y : Bool). pick y 0 1) w) in let r : ⊥ = omega arith in r)
+  clash x a b = absurd (true≢false (sym a ∙ b))
 
   -- what holds below n and at n holds below n + 1
   below : (P : ℕ → Type 0) (n : ℕ) → ((j : ℕ) → j < n → P j) → P n → (j : ℕ) → j < suc n → P j

@@ -3,11 +3,11 @@ use Prim.Native.Nat.{ℕ, zero, suc, _+_, _-_, _≤_, _<_, min, max}
 use native.Mathlib.Nat.{zero-add, add-zero}
 use native.Mathlib.Omega.{arith}
 use mathlib.Core.Path.{_≡_, refl, sym, ap, _∙_}
-use mathlib.Core.Bool.{Bool, true, false, _&&_, and-true}
+use mathlib.Core.Bool.{Bool, true, false, _&&_, and-true, and-false}
 use mathlib.Core.List.{List, [], _∷_, _++_, map}
 use lib.Dec.{ltb}
 use lib.ListN.{length}
-use borrow.Author.Tests.{lt-ltb, ltb-true, ltb-false}
+use borrow.Author.Tests.{lt-ltb, ltb-true, ltb-false, leb-true}
 use Rattle.refusal.specs.Said.{pick}
 use Rattle.ports.specs.declared.Ports.{Ports}
 use Rattle.ports.specs.declared.Port.{Port}
@@ -16,37 +16,29 @@ use Rattle.ports.specs.Delays.{largest, smallest, spread, total, between
 
 -- ---- a port
 
+-- what holds at each of the four places
+pub at-each : (P : ℕ → Type 0) → P 0 → P 1 → P 2 → P 3 → (k : ℕ) → k < 4 → P k
+at-each P a b c d zero h = a
+at-each P a b c d (suc zero) h = b
+at-each P a b c d (suc (suc zero)) h = c
+at-each P a b c d (suc (suc (suc zero))) h = d
+at-each P a b c d (suc (suc (suc (suc k)))) h = absurd (let z : ⊥ = omega arith in z)
+
 pub place-low : (n : ℕ) → n < 4 → placeOf n < 4
-place-low zero h = omega arith
-place-low (suc zero) h = omega arith
-place-low (suc (suc zero)) h = omega arith
-place-low (suc (suc (suc zero))) h = omega arith
-place-low (suc (suc (suc (suc n)))) h = absurd (let z : ⊥ = omega arith in z)
+place-low = at-each (λ (n : ℕ). placeOf n < 4) (leb-true 1 4 refl) (leb-true 3 4 refl) (leb-true 4 4 refl) (leb-true 2 4 refl)
 
 -- the place of the port at a place
 pub place-number : (k : ℕ) → k < 4 → placeOf (numberAt k) ≡ k
-place-number zero h = refl
-place-number (suc zero) h = refl
-place-number (suc (suc zero)) h = refl
-place-number (suc (suc (suc zero))) h = refl
-place-number (suc (suc (suc (suc k)))) h = absurd (let z : ⊥ = omega arith in z)
+place-number = at-each (λ (k : ℕ). placeOf (numberAt k) ≡ k) refl refl refl refl
 
 pub number-low : (k : ℕ) → k < 4 → numberAt k < 4
-number-low zero h = omega arith
-number-low (suc zero) h = omega arith
-number-low (suc (suc zero)) h = omega arith
-number-low (suc (suc (suc zero))) h = omega arith
-number-low (suc (suc (suc (suc k)))) h = absurd (let z : ⊥ = omega arith in z)
+number-low = at-each (λ (k : ℕ). numberAt k < 4) (leb-true 1 4 refl) (leb-true 4 4 refl) (leb-true 2 4 refl) (leb-true 3 4 refl)
 
 pub active-is : {q r : Port} {b : Bool} → q ≡ r → q .active ≡ b → r .active ≡ b
 active-is e h = rw e at h
 
 pub free-is : {q r : Port} {f b : Bool} → q ≡ r → f ≡ isFree (q .«downstream_to») → f ≡ b → isFree (r .«downstream_to») ≡ b
 free-is e h i = cc
-
-and-false : (b : Bool) → b && false ≡ false
-and-false true = refl
-and-false false = refl
 
 -- ---- lists of places
 
@@ -61,13 +53,13 @@ module _ {A : Type 0} (g : ℕ → Bool) (f : A → ℕ → A) where
       go true next = next (f x k)
       go false next = next x
 
-pub folded-map : {A : Type 0} (f : A → ℕ → A) (t : ℕ → ℕ) (x : A) (ks : List ℕ) → folded f x (map t ks) ≡ folded (λ (y : A) (k : ℕ). f y (t k)) x ks
+folded-map : {A : Type 0} (f : A → ℕ → A) (t : ℕ → ℕ) (x : A) (ks : List ℕ) → folded f x (map t ks) ≡ folded (λ (y : A) (k : ℕ). f y (t k)) x ks
 unfolding folded
 folded-map f t x [] = refl
 folded-map f t x (k ∷ ks) = folded-map f t (f x (t k)) ks
 
 module _ (h g : ℕ → Bool) where
-  pub first-those : (ks : List ℕ) → firstThat g (those h ks) ≡ firstThat (λ (k : ℕ). h k && g k) ks
+  first-those : (ks : List ℕ) → firstThat g (those h ks) ≡ firstThat (λ (k : ℕ). h k && g k) ks
   unfolding firstThat those
   first-those [] = refl
   first-those (k ∷ ks) = go (h k) (first-those ks)
@@ -77,7 +69,7 @@ module _ (h g : ℕ → Bool) where
       go true next = ap (pick (g k) k) next
       go false next = next
 
-  pub those-those : (ks : List ℕ) → those g (those h ks) ≡ those (λ (k : ℕ). g k && h k) ks
+  those-those : (ks : List ℕ) → those g (those h ks) ≡ those (λ (k : ℕ). g k && h k) ks
   unfolding those
   those-those [] = refl
   those-those (k ∷ ks) = go (h k) (those-those ks)
@@ -87,7 +79,7 @@ module _ (h g : ℕ → Bool) where
       go true next = rw (and-true (g k)) (ap (λ (l : List ℕ). pick (g k) (k ∷ l) l) next)
       go false next = rw (and-false (g k)) next
 
-pub length-those : (g : ℕ → Bool) (k : ℕ) (ks : List ℕ) → length (those g (k ∷ ks)) ≡ pick (g k) 1 0 + length (those g ks)
+length-those : (g : ℕ → Bool) (k : ℕ) (ks : List ℕ) → length (those g (k ∷ ks)) ≡ pick (g k) 1 0 + length (those g ks)
 unfolding those
 length-those g k ks = go (g k)
   where
@@ -184,7 +176,7 @@ All P [] = Unit {0}
 All P (k ∷ ks) = P k × All P ks
 
 -- what holds of every one that passes a test holds of those that pass it
-pub all-those : (P : ℕ → Type 0) (g : ℕ → Bool) (ks : List ℕ) → All (λ (k : ℕ). g k ≡ true → P k) ks → All P (those g ks)
+all-those : (P : ℕ → Type 0) (g : ℕ → Bool) (ks : List ℕ) → All (λ (k : ℕ). g k ≡ true → P k) ks → All P (those g ks)
 unfolding those
 all-those P g [] a = tt
 all-those P g (k ∷ ks) a = go (g k) refl (all-those P g ks (a .1))

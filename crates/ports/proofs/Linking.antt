@@ -2,7 +2,7 @@
 -- The assigning rule is opened in assignable-open alone.
 use Prim.Native.Nat.{ℕ, zero, suc, _+_, _<_}
 use native.Mathlib.Omega.{arith}
-use mathlib.Core.Path.{_≡_, refl, ap, subst}
+use mathlib.Core.Path.{_≡_, refl, ap, subst, _∙_}
 use mathlib.Core.Logic.{_≢_}
 use mathlib.Core.Bool.{Bool, true, false}
 use mathlib.Core.List.{List, [], _∷_, _++_}
@@ -18,7 +18,7 @@ use Rattle.ports.specs.declared.Assigned.{Assigned}
 use Rattle.ports.specs.declared.PortAnswer.the-variants as port
 use Rattle.ports.specs.Ports.{nowhere, numberAt, placeOf, noPort, portAt, activeAt, timeAt, unlinkedAt, firstThat, folded, activePorts, entry, linked, linkSet}
 use Rattle.ports.specs.Answers.{saidPort}
-use Rattle.ports.specs.Assigning.{repeated, assignable, unchanged, taken, assignedOf, assignedSaid}
+use Rattle.ports.specs.Assigning.{repeated, assignable, unchanged, assignedOf, assignedSaid}
 use Rattle.ports.specs.Meaning.{Took}
 use Rattle.ports.proofs.Laws.{All, all-active, entry-steps, number-low, place-number}
 
@@ -78,20 +78,20 @@ module _ (p : Ports) (k d : ℕ) (h : k < length (p .0)) where
   unfolding linkSet
   link-others j n = getD-set-other (p .0) k j (linked (portAt p k) d) noPort n
 
+  -- what a port keeps when it is linked, every place keeps
+  link-kept : {A : Type 0} (f : Port → A) → f (linked (portAt p k) d) ≡ f (portAt p k) → (j : ℕ) → f (portAt (linkSet p k d) j) ≡ f (portAt p j)
+  link-kept {A} f kept j = go (eqb j k) refl
+    where
+      go : (b : Bool) → eqb j k ≡ b → f (portAt (linkSet p k d) j) ≡ f (portAt p j)
+      go true e = let q : j ≡ k = eqb-true j k e in rw q (ap f link-here ∙ kept)
+      go false e = ap f (link-others j (eqb-false j k e))
+
   -- a link leaves which ports are active, and their times
   pub link-active : (j : ℕ) → activeAt (linkSet p k d) j ≡ activeAt p j
-  link-active j = go (eqb j k) refl
-    where
-      go : (b : Bool) → eqb j k ≡ b → activeAt (linkSet p k d) j ≡ activeAt p j
-      go true e = let q : j ≡ k = eqb-true j k e in rw q (ap (λ (x : Port). x .active) link-here)
-      go false e = ap (λ (x : Port). x .active) (link-others j (eqb-false j k e))
+  link-active = link-kept (λ (x : Port). x .active) refl
 
   pub link-time : (j : ℕ) → timeAt (linkSet p k d) j ≡ timeAt p j
-  link-time j = go (eqb j k) refl
-    where
-      go : (b : Bool) → eqb j k ≡ b → timeAt (linkSet p k d) j ≡ timeAt p j
-      go true e = let q : j ≡ k = eqb-true j k e in rw q (ap (λ (x : Port). x .«dc_receive_time») link-here)
-      go false e = ap (λ (x : Port). x .«dc_receive_time») (link-others j (eqb-false j k e))
+  link-time = link-kept (λ (x : Port). x .«dc_receive_time») refl
 
   -- .. and so the entry
   pub link-entry : entry (linkSet p k d) ≡ entry p

@@ -1,10 +1,11 @@
 -- What a search of the repeated list takes: each step of the code leaves it as it was.
 use Prim.Native.Nat.{ℕ, zero, suc, _+_, _-_, _≤_, _<_}
 use native.Mathlib.Omega.{arith}
-use mathlib.Core.Path.{_≡_, refl}
+use mathlib.Core.Path.{_≡_}
 use mathlib.Core.Bool.{true, false}
-use mathlib.Core.List.{List, [], _∷_, _++_}
+use mathlib.Core.List.{List, _∷_, _++_}
 use lib.ListN.{take, drop}
+use lib.Seq.{take-nil, drop-nil}
 use borrow.Author.Tests.{lt-ltb, le-ltb}
 use Rattle.ports.specs.declared.Ports.{Ports}
 use Rattle.ports.specs.declared.assign.Look.{Look}
@@ -18,12 +19,6 @@ drop-pos (suc n) k ks h = let e : suc n - 1 ≡ n = omega arith in rw e
 take-pos : (n k : ℕ) (ks : List ℕ) → 0 < n → take n (k ∷ ks) ≡ k ∷ take (n - 1) ks
 take-pos zero k ks h = absurd (let z : ⊥ = omega arith in z)
 take-pos (suc n) k ks h = let e : suc n - 1 ≡ n = omega arith in rw e
-
-take-none : (m n : ℕ) → take {A = ℕ} m (drop n []) ≡ []
-take-none zero zero = refl
-take-none zero (suc n) = refl
-take-none (suc m) zero = refl
-take-none (suc m) (suc n) = refl
 
 -- ---- one place more
 
@@ -66,4 +61,4 @@ module _ (p : Ports) (l : Look) where
 
   pub finds-none : (i : ℕ) → 8 ≤ i → 4 ≤ l .taken → 4 ≡ finds p l (repeated (8 - i) (activePorts p))
   unfolding finds repeated firstThat
-  finds-none i h b = let e : 8 - i ≡ 0 = omega arith in rw (le-ltb (l .taken) 4 b, e, take-none (l .left) (l .skip))
+  finds-none i h b = let e : 8 - i ≡ 0 = omega arith in rw (le-ltb (l .taken) 4 b, e, drop-nil (l .skip), take-nil (l .left))

@@ -20,12 +20,12 @@ use Rattle.ports.specs.declared.TextAnswer.the-variants as text
 
 -- ---- a port
 
-unfoldable pub portOf : Said → PortAnswer
+unfoldable portOf : Said → PortAnswer
 portOf (gives l) = port.At (getD l 0 0)
 portOf absent = port.Absent
 portOf (refuses n l) = port.No (refusalOf n l)
 
-pub port-back : (r : PortAnswer) → portOf (saidPort r) ≡ r
+port-back : (r : PortAnswer) → portOf (saidPort r) ≡ r
 unfolding portOf
 port-back (port.At n) = refl
 port-back port.Absent = refl
@@ -36,12 +36,12 @@ port-unique a b s p q = sym (port-back a) ∙ ap portOf (p ∙ sym q) ∙ port-b
 
 -- ---- a time
 
-unfoldable pub timeOf : Said → TimeAnswer
+unfoldable timeOf : Said → TimeAnswer
 timeOf (gives l) = time.Time (getD l 0 0)
 timeOf absent = time.Absent
 timeOf (refuses n l) = time.No (refusalOf n l)
 
-pub time-back : (r : TimeAnswer) → timeOf (saidTime r) ≡ r
+time-back : (r : TimeAnswer) → timeOf (saidTime r) ≡ r
 unfolding timeOf
 time-back (time.Time t) = refl
 time-back time.Absent = refl
@@ -52,22 +52,22 @@ time-unique a b s p q = sym (time-back a) ∙ ap timeOf (p ∙ sym q) ∙ time-b
 
 -- ---- a topology
 
-unfoldable pub ofCount : ℕ → Topology
+unfoldable ofCount : ℕ → Topology
 ofCount n = pick (eqb n 1) LineEnd (pick (eqb n 2) Passthrough (pick (eqb n 3) Fork Cross))
 
-pub count-back : (x : Topology) → ofCount (countOf x) ≡ x
+count-back : (x : Topology) → ofCount (countOf x) ≡ x
 unfolding ofCount
 count-back LineEnd = refl
 count-back Passthrough = refl
 count-back Fork = refl
 count-back Cross = refl
 
-unfoldable pub topologyOf : Said → TopologyAnswer
+unfoldable topologyOf : Said → TopologyAnswer
 topologyOf (gives l) = topology.Is (ofCount (getD l 0 0))
 topologyOf absent = topology.No NoPort
 topologyOf (refuses n l) = topology.No (refusalOf n l)
 
-pub topology-back : (r : TopologyAnswer) → topologyOf (saidTopology r) ≡ r
+topology-back : (r : TopologyAnswer) → topologyOf (saidTopology r) ≡ r
 unfolding topologyOf
 topology-back (topology.Is x) = ap topology.Is (count-back x)
 topology-back (topology.No x) = ap topology.No (back x)
@@ -77,12 +77,12 @@ topology-unique a b s p q = sym (topology-back a) ∙ ap topologyOf (p ∙ sym q
 
 -- ---- a text
 
-unfoldable pub textAnswerOf : Said → TextAnswer
+unfoldable textAnswerOf : Said → TextAnswer
 textAnswerOf (gives l) = text.Written (getD l 0 0)
 textAnswerOf absent = text.No NoPort
 textAnswerOf (refuses n l) = text.No (refusalOf n l)
 
-pub text-back : (r : TextAnswer) → textAnswerOf (saidText r) ≡ r
+text-back : (r : TextAnswer) → textAnswerOf (saidText r) ≡ r
 unfolding textAnswerOf
 text-back (text.Written n) = refl
 text-back (text.No x) = ap text.No (back x)

@@ -1,38 +1,27 @@
 -- The text is laid word by word: each word goes just behind those before it.
-use Prim.Native.Nat.{ℕ, zero, suc, _+_, _≤_, _<_}
+use Prim.Native.Nat.{ℕ, zero, suc, _+_, _-_, _*_, _≤_, _<_}
 use native.Mathlib.Nat.{add-zero, add-suc}
 use native.Mathlib.Numerals.{add-one}
 use native.Mathlib.Omega.{arith}
-use mathlib.Core.Path.{_≡_, sym, _∙_}
-use mathlib.Core.List.{List, [], _++_}
+use mathlib.Core.Path.{_≡_, refl, _∙_}
+use mathlib.Core.Bool.{Bool, true, false}
+use mathlib.Core.List.{List, _++_}
 use lib.ListN.{length, length-append}
+use Rattle.refusal.specs.Said.{pick}
 use Rattle.wire.specs.Bytes.{laid, overlay}
-use Rattle.wire.proofs.Laws.{laid-whole, length-overlay, overlay-next, overlay-none}
+use Rattle.wire.proofs.Laws.{laid-whole, overlay-next}
+use Rattle.wire.proofs.Stretch.{Front, front-next}
 use Rattle.ports.specs.declared.Ports.{Ports}
 use Rattle.ports.specs.declared.Port.{Port}
-use Rattle.ports.specs.Ports.{portAt, activeAt}
+use Rattle.ports.specs.Ports.{portAt, activeAt, activePorts}
 use Rattle.ports.specs.Display.{opening, closing, wordOf, words, textOf}
+use Rattle.ports.proofs.Laws.{at-each, count-steps}
 
--- xs with ys laid over it from from on is now; the next word goes to at
-pub record Front (xs : List ℕ) (from : ℕ) (ys now : List ℕ) (at : ℕ) : Type 0 where
-  pub so-far : now ≡ overlay xs from ys
-  pub next : at ≡ from + length ys
-
-pub front-start : (xs : List ℕ) (from : ℕ) → Front xs from [] xs from
-front-start xs from = record { so-far = sym (overlay-none xs from); next = sym (add-zero from) }
-
-pub front-next : {xs : List ℕ} {from : ℕ} {ys now : List ℕ} {at : ℕ} (zs now′ : List ℕ) → Front xs from ys now at → from + length (ys ++ zs) ≤ length xs
-    → now′ ≡ laid now at zs → Front xs from (ys ++ zs) now′ (at + length zs)
-front-next {xs} {from} {ys} {now} {at} zs now′ f h e =
-    let n : from + (length ys + length zs) ≤ length xs = rw length-append at h in
-    let k : from + length ys ≤ length xs = omega arith in
-    let m : from + length ys + length zs ≤ length (overlay xs from ys) = rw (length-overlay xs from ys k) (omega arith) in
-    record {
-      so-far = e ∙ rw (f .so-far, f .next) (laid-whole (overlay xs from ys) (from + length ys) zs m ∙ overlay-next xs from ys zs k);
-      next = rw (f .next, length-append) (omega arith);
-    }
-
--- ---- the words
+-- an active port's word is two bytes shorter
+word-length : (b : Bool) → length (wordOf b) + 2 * pick b 1 0 ≡ 7
+unfolding wordOf
+word-length true = refl
+word-length false = refl
 
 module _ (p : Ports) where
   grows : (k n : ℕ) → length (words p k) ≤ length (words p (k + n))
@@ -40,17 +29,21 @@ module _ (p : Ports) where
   grows k zero = rw add-zero (omega arith)
   grows k (suc n) = rw (add-suc, length-append) (omega (arith, grows k n))
 
-  pub grows-to : (k : ℕ) → k < 4 → length (words p k ++ wordOf (activeAt p k)) ≤ length (words p 4)
+  grows-to : (k : ℕ) → k < 4 → length (words p k ++ wordOf (activeAt p k)) ≤ length (words p 4)
   unfolding words
-  grows-to zero h = grows 1 3
-  grows-to (suc zero) h = grows 2 2
-  grows-to (suc (suc zero)) h = grows 3 1
-  grows-to (suc (suc (suc zero))) h = grows 4 0
-  grows-to (suc (suc (suc (suc k)))) h = absurd (let z : ⊥ = omega arith in z)
+  grows-to = at-each (λ (k : ℕ). length (words p k ++ wordOf (activeAt p k)) ≤ length (words p 4)) (grows 1 3) (grows 2 2) (grows 3 1) (grows 4 0)
 
-  pub length-text : 8 + length (wordOf (activeAt p 0)) + length (wordOf (activeAt p 1)) + length (wordOf (activeAt p 2)) + length (wordOf (activeAt p 3)) + 1 ≡ length (textOf p)
+  pub length-text : 37 - 2 * length (activePorts p) ≡ length (textOf p)
   unfolding textOf words
-  length-text = simp length-append (omega arith)
+  length-text =
+      simp length-append (omega (
+        arith,
+        word-length (activeAt p 0),
+        word-length (activeAt p 1),
+        word-length (activeAt p 2),
+        word-length (activeAt p 3),
+        count-steps p,
+      ))
 
   pub words-next : (k : ℕ) → words p (k + 1) ≡ words p k ++ wordOf (activeAt p k)
   unfolding words

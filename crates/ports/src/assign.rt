@@ -10,7 +10,7 @@ use crate::Ports;
 use crate::place::port_at;
 
 // Where a search of the repeated list stands.
-pub(crate) struct Look {
+struct Look {
     // How many are still to be dropped.
     skip: usize,
     // How many are still to be looked at.

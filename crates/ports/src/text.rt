@@ -3,27 +3,17 @@ ghost use mathlib.Core.Path.{_≡_};
 ghost use Prim.Native.Nat.{_+_, _≤_, _<_};
 ghost use lib.ListN.{length};
 ghost use Rattle.wire.specs.Bytes.{laid, overlay};
-ghost use Rattle.ports.specs.Ports.{activeAt};
 ghost use Rattle.ports.specs.Display.{wordOf, words, textOf};
 use crate::Ports;
+use crate::active::count;
 use crate::place::port_at;
 use wire::lay;
 
-// How long the word of the port at a place is.
-fn word_len(p: Ports, k: usize) -> usize
-    requires { ⌜ k < 4 ⌝ }
-    ensures { λ r. ⌜ (r ≡ length (wordOf (activeAt p k))) × (r ≤ 7) ⌝ }
-{
-    let a = p.0;
-    let q = a[k];
-    if q.active { 5 } else { 7 }
-}
-
-// How long the text is.
+// How long the text is: an active port's word is two bytes shorter.
 pub(crate) fn text_len(p: Ports) -> usize
     ensures { λ r. ⌜ r ≡ length (textOf p) ⌝ }
 {
-    8 + word_len(p, 0) + word_len(p, 1) + word_len(p, 2) + word_len(p, 3) + 1
+    37 - 2 * (count(p) as usize)
 }
 
 // Lays a port's word over the buffer; the place behind it.

@@ -14,12 +14,13 @@ use Rattle.wire.proofs.Laws.{length-overlay}
 use Rattle.crc.specs.Crc.{crcOf}
 use Rattle.eeprom.specs.Image.{within}
 use Rattle.category.specs.Numbers as numbers
-use Rattle.sii.specs.Layout.{Field, fixed, start, checksum, vendorId, productCode, revisionNumber, serialNumber, receiveMailboxOffset, receiveMailboxSize, sendMailboxOffset, sendMailboxSize, mailboxProtocol, memorySize}
+use Rattle.sii.specs.Layout.{Field, fixed, start, vendorId, productCode, revisionNumber, serialNumber, receiveMailboxOffset, receiveMailboxSize, sendMailboxOffset, sendMailboxSize, mailboxProtocol, memorySize}
 use Rattle.sii.specs.Fixed.{lent, aliasSaid, identityOf, identitySaid, mailboxOf, mailboxSaid, sizeSaid, checksumEnd, withAlias, withChecksum, aliased, setSaid, setImage}
 use Rattle.sii.specs.General.{generalOf, generalAdmits, generalIn, generalFound, generalSaid}
 use Rattle.sii.specs.Alias.{SameFrom, AliasKept}
 use Rattle.wire.proofs.Overlay.{overlay-before, overlay-past, overlay-inside, overlay-front, bytes16-back}
-use Rattle.sii.proofs.Same.{categories, same-weaker, field-same, within-same, on-category-same, category-same}
+use Rattle.category.proofs.Same.{categories, category-same, on-category-same}
+use Rattle.sii.proofs.Same.{same-weaker, field-same, within-same}
 
 -- ---- read-outs that look only behind the checksum
 
@@ -27,7 +28,7 @@ module _ (s t : List ℕ) (e : SameFrom checksumEnd s t) where
   fixed-same : (f : Field) → checksumEnd ≤ start f → fixed s f ≡ fixed t f
   fixed-same f h = field-same checksumEnd s t e 0 f (omega arith)
 
-  pub identity-same : identitySaid s ≡ identitySaid t
+  identity-same : identitySaid s ≡ identitySaid t
   unfolding identitySaid identityOf lent
   identity-same =
       rw (
@@ -38,7 +39,7 @@ module _ (s t : List ℕ) (e : SameFrom checksumEnd s t) where
         fixed-same serialNumber (omega arith),
       )
 
-  pub mailbox-same : mailboxSaid s ≡ mailboxSaid t
+  mailbox-same : mailboxSaid s ≡ mailboxSaid t
   unfolding mailboxSaid mailboxOf lent
   mailbox-same =
       rw (
@@ -50,7 +51,7 @@ module _ (s t : List ℕ) (e : SameFrom checksumEnd s t) where
         fixed-same mailboxProtocol (omega arith),
       )
 
-  pub size-same : sizeSaid s ≡ sizeSaid t
+  size-same : sizeSaid s ≡ sizeSaid t
   unfolding sizeSaid lent
   size-same = rw (within-same checksumEnd s t e, fixed-same memorySize (omega arith))
 
@@ -62,11 +63,11 @@ module _ (s t : List ℕ) (e : SameFrom categories s t) where
       let b : (k j : ℕ) → byteAt s (p + k + j) ≡ byteAt t (p + k + j) = λ k j. e .bytes (p + k + j) (omega arith) in
       simp (a, b)
 
-  pub found-same : generalFound s ≡ generalFound t
+  found-same : generalFound s ≡ generalFound t
   unfolding generalFound
-  found-same = on-category-same s t e numbers.general (generalIn s) (generalIn t) in-same
+  found-same = on-category-same s t (e .size) (e .bytes) numbers.general (generalIn s) (generalIn t) in-same
 
-  pub general-same : generalSaid s ≡ generalSaid t
+  general-same : generalSaid s ≡ generalSaid t
   unfolding generalSaid
   general-same = rw found-same
 
@@ -127,7 +128,7 @@ alias-kept image alias f p =
       identity = identity-same _ _ b;
       mailbox = mailbox-same _ _ b;
       size = size-same _ _ b;
-      category = category-same _ _ c;
+      category = category-same _ _ (c .size) (c .bytes);
       found = found-same _ _ c;
       general = general-same _ _ c;
     })

@@ -1,4 +1,4 @@
--- Setting the alias: what each way out says and leaves, from the tests that led there.
+-- Setting the alias: what each way out says, and what it leaves in the image, from the tests that led there.
 use Prim.Native.Nat.{ℕ, _≤_, _<_}
 use mathlib.Core.Path.{_≡_}
 use mathlib.Core.List.{List, []}
@@ -8,8 +8,6 @@ use borrow.Author.Tests.{le-leb, lt-leb}
 use Rattle.refusal.specs.Said.{gives, refuses}
 use Rattle.eeprom.specs.Image.{within}
 use Rattle.sii.specs.Fixed.{lent, checksumEnd, aliased, setSaid, setImage}
-
--- ---- setting the alias: what is said, and what is left in the image
 
 module _ (image : List ℕ) (alias : ℕ) (t : Bool) (w : t ≡ within image) where
   pub set-yes : t ≡ true → checksumEnd ≤ length image → (gives [] ≡ setSaid image) × (aliased image alias ≡ setImage image alias)

@@ -27,12 +27,12 @@ use Rattle.sii.specs.declared.GeneralAnswer.the-variants as general
 
 -- ---- the fixed area
 
-unfoldable pub aliasOf : Said → AliasAnswer
+unfoldable aliasOf : Said → AliasAnswer
 aliasOf (gives l) = alias.Alias (getD l 0 0)
 aliasOf absent = alias.Alias 0
 aliasOf (refuses n l) = alias.No (refusalOf n l)
 
-pub alias-back : (r : AliasAnswer) → aliasOf (saidAlias r) ≡ r
+alias-back : (r : AliasAnswer) → aliasOf (saidAlias r) ≡ r
 unfolding aliasOf
 alias-back (alias.Alias n) = refl
 alias-back (alias.No x) = ap alias.No (back x)
@@ -40,12 +40,12 @@ alias-back (alias.No x) = ap alias.No (back x)
 pub alias-unique : (a b : AliasAnswer) (s : Said) → saidAlias a ≡ s → saidAlias b ≡ s → a ≡ b
 alias-unique a b s p q = sym (alias-back a) ∙ ap aliasOf (p ∙ sym q) ∙ alias-back b
 
-unfoldable pub setOf : Said → AliasSet
+unfoldable setOf : Said → AliasSet
 setOf (gives l) = set.Done
 setOf absent = set.Done
 setOf (refuses n l) = set.No (refusalOf n l)
 
-pub set-back : (r : AliasSet) → setOf (saidSet r) ≡ r
+set-back : (r : AliasSet) → setOf (saidSet r) ≡ r
 unfolding setOf
 set-back set.Done = refl
 set-back (set.No x) = ap set.No (back x)
@@ -53,12 +53,12 @@ set-back (set.No x) = ap set.No (back x)
 pub set-unique : (a b : AliasSet) (s : Said) → saidSet a ≡ s → saidSet b ≡ s → a ≡ b
 set-unique a b s p q = sym (set-back a) ∙ ap setOf (p ∙ sym q) ∙ set-back b
 
-unfoldable pub sizeOf : Said → SizeAnswer
+unfoldable sizeOf : Said → SizeAnswer
 sizeOf (gives l) = size.Bytes (getD l 0 0)
 sizeOf absent = size.Bytes 0
 sizeOf (refuses n l) = size.No (refusalOf n l)
 
-pub size-back : (r : SizeAnswer) → sizeOf (saidSize r) ≡ r
+size-back : (r : SizeAnswer) → sizeOf (saidSize r) ≡ r
 unfolding sizeOf
 size-back (size.Bytes n) = refl
 size-back (size.No x) = ap size.No (back x)
@@ -66,13 +66,13 @@ size-back (size.No x) = ap size.No (back x)
 pub size-unique : (a b : SizeAnswer) (s : Said) → saidSize a ≡ s → saidSize b ≡ s → a ≡ b
 size-unique a b s p q = sym (size-back a) ∙ ap sizeOf (p ∙ sym q) ∙ size-back b
 
-unfoldable pub identityFrom : Said → IdentityAnswer
+unfoldable identityFrom : Said → IdentityAnswer
 identityFrom (gives l) =
     identity.Is (record { «vendor_id» = getD l 0 0; «product_id» = getD l 1 0; revision = getD l 2 0; serial = getD l 3 0 })
 identityFrom absent = identity.No (refusalOf 0 [])
 identityFrom (refuses n l) = identity.No (refusalOf n l)
 
-pub identity-back : (r : IdentityAnswer) → identityFrom (saidIdentity r) ≡ r
+identity-back : (r : IdentityAnswer) → identityFrom (saidIdentity r) ≡ r
 unfolding identityFrom
 identity-back (identity.Is i) = refl
 identity-back (identity.No x) = ap identity.No (back x)
@@ -80,7 +80,7 @@ identity-back (identity.No x) = ap identity.No (back x)
 pub identity-unique : (a b : IdentityAnswer) (s : Said) → saidIdentity a ≡ s → saidIdentity b ≡ s → a ≡ b
 identity-unique a b s p q = sym (identity-back a) ∙ ap identityFrom (p ∙ sym q) ∙ identity-back b
 
-unfoldable pub mailboxFrom : Said → MailboxAnswer
+unfoldable mailboxFrom : Said → MailboxAnswer
 mailboxFrom (gives l) =
     mailbox.Is (record {
       «subdevice_receive_offset» = getD l 0 0;
@@ -92,7 +92,7 @@ mailboxFrom (gives l) =
 mailboxFrom absent = mailbox.No (refusalOf 0 [])
 mailboxFrom (refuses n l) = mailbox.No (refusalOf n l)
 
-pub mailbox-back : (r : MailboxAnswer) → mailboxFrom (saidMailbox r) ≡ r
+mailbox-back : (r : MailboxAnswer) → mailboxFrom (saidMailbox r) ≡ r
 unfolding mailboxFrom
 mailbox-back (mailbox.Is m) = refl
 mailbox-back (mailbox.No x) = ap mailbox.No (back x)
@@ -106,7 +106,7 @@ bit-back : (b : Bool) → eqb (bit b) 1 ≡ b
 bit-back true = refl
 bit-back false = refl
 
-unfoldable pub generalFrom : List ℕ → SiiGeneral
+unfoldable generalFrom : List ℕ → SiiGeneral
 generalFrom l = record {
   «group_string_idx» = getD l 0 0;
   «image_string_idx» = getD l 1 0;
@@ -124,16 +124,16 @@ generalFrom l = record {
   «physical_memory_addr» = getD l 13 0;
 }
 
-pub values-back : (g : SiiGeneral) → generalFrom (generalValues g) ≡ g
+values-back : (g : SiiGeneral) → generalFrom (generalValues g) ≡ g
 unfolding generalFrom
 values-back g = rw (bit-back (g .«foe_enabled»), bit-back (g .«eoe_enabled»))
 
-unfoldable pub foundOf : Said → GeneralFound
+unfoldable foundOf : Said → GeneralFound
 foundOf (gives l) = found.Is (generalFrom l)
 foundOf absent = found.Absent
 foundOf (refuses n l) = found.No (refusalOf n l)
 
-pub found-back : (r : GeneralFound) → foundOf (saidFound r) ≡ r
+found-back : (r : GeneralFound) → foundOf (saidFound r) ≡ r
 unfolding foundOf
 found-back (found.Is g) = ap found.Is (values-back g)
 found-back found.Absent = refl
@@ -142,12 +142,12 @@ found-back (found.No x) = ap found.No (back x)
 pub found-unique : (a b : GeneralFound) (s : Said) → saidFound a ≡ s → saidFound b ≡ s → a ≡ b
 found-unique a b s p q = sym (found-back a) ∙ ap foundOf (p ∙ sym q) ∙ found-back b
 
-unfoldable pub answerOf : Said → GeneralAnswer
+unfoldable answerOf : Said → GeneralAnswer
 answerOf (gives l) = general.Is (generalFrom l)
 answerOf absent = general.Is (generalFrom [])
 answerOf (refuses n l) = general.No (refusalOf n l)
 
-pub general-back : (r : GeneralAnswer) → answerOf (saidGeneral r) ≡ r
+general-back : (r : GeneralAnswer) → answerOf (saidGeneral r) ≡ r
 unfolding answerOf
 general-back (general.Is g) = ap general.Is (values-back g)
 general-back (general.No x) = ap general.No (back x)

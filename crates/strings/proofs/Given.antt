@@ -18,7 +18,7 @@ use Rattle.strings.proofs.Laws.{length-shown, small-sought}
 
 -- ---- what is shown
 
-pub shown-plain : (l : List ℕ) → Plain (shown l)
+shown-plain : (l : List ℕ) → Plain (shown l)
 unfolding shown Plain ascii
 shown-plain [] = tt
 shown-plain (b ∷ l) = go (eqb b 0) (ltb b 128) refl refl (shown-plain l)
@@ -39,7 +39,7 @@ plain-shown (b ∷ l) h =
 
 -- ---- what is given
 
-pub text-given : (image : List ℕ) (k : ℕ) (place : Said) (text : List ℕ) → Small k place → textFor image k place ≡ gives text → Plain text × (length text ≤ k)
+text-given : (image : List ℕ) (k : ℕ) (place : Said) (text : List ℕ) → Small k place → textFor image k place ≡ gives text → Plain text × (length text ≤ k)
 unfolding textFor bounded textSaid on2
 text-given image k place text s e = go (fits image k) place s e
   where

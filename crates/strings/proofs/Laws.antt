@@ -1,19 +1,19 @@
 -- Laws of strings: passing over them, and the text laid byte by byte.
 use Prim.Native.Nat.{ℕ, zero, suc, _+_, _-_, _≤_, _<_}
 use native.Mathlib.Nat.{zero-add}
-use native.Mathlib.Numerals.{add-one, sub-one}
+use native.Mathlib.Numerals.{sub-one}
 use native.Mathlib.Omega.{arith}
 use mathlib.Core.Path.{_≡_, refl, sym, ap, _∙_}
-use mathlib.Core.List.{List, [], _∷_, _++_, append-assoc}
+use mathlib.Core.List.{List, [], _∷_, _++_}
 use mathlib.Core.Bool.{Bool, true, false}
 use lib.ListN.{length, getD, set, length-append}
-use lib.Seq.{set-split}
 use lib.Dec.{eqb, ltb, leb}
 use borrow.Author.Tests.{le-ltb, eq-eqb, ne-eqb, ltb-false, leb-true}
 use Rattle.refusal.specs.Said.{Said, gives, absent, refuses, on2, on3, pick}
 use Rattle.refusal.proofs.Tests.{both}
 use Rattle.wire.specs.Bytes.{byteAt, span, overlay}
 use Rattle.wire.proofs.Laws.{span-add, length-overlay, overlay-next, overlay-none}
+use Rattle.wire.proofs.Stretch.{overlay-one}
 use Rattle.eeprom.specs.Image.{within}
 use Rattle.eeprom.specs.Range.{byteSaid}
 use Rattle.category.specs.Numbers.{strings}
@@ -103,7 +103,7 @@ small-sought image index m =
 
 -- ---- the text
 
-pub shown-append : (a b : List ℕ) → shown (a ++ b) ≡ shown a ++ shown b
+shown-append : (a b : List ℕ) → shown (a ++ b) ≡ shown a ++ shown b
 unfolding shown
 shown-append [] b = refl
 shown-append (x ∷ a) b = go (eqb x 0) (shown-append a b)
@@ -121,11 +121,6 @@ length-shown (x ∷ l) = go (eqb x 0) (length-shown l)
     go : (t : Bool) → length (shown l) ≤ length l → length (pick t (shown l) (ascii x ∷ shown l)) ≤ suc (length l)
     go true h = omega arith
     go false h = omega arith
-
--- one byte stored is one byte laid
-overlay-one : (xs : List ℕ) (k b : ℕ) → k < length xs → set xs k b ≡ overlay xs k (b ∷ [])
-unfolding overlay
-overlay-one xs k b h = rw (set-split xs k b h, add-one, append-assoc)
 
 -- a byte that is not shown, and one that is
 pub put-none : (b k : ℕ) (room : List ℕ) → b ≡ 0 → (k ≡ k + length (shown (b ∷ []))) × (room ≡ overlay room k (shown (b ∷ [])))

@@ -43,7 +43,7 @@ module _ (image : List ℕ) (k : ℕ) (said : Said) (index : List ℕ → ℕ) w
   by-out t = rw t
 
   -- a text given is plain and fits its room
-  pub by-given : (text : List ℕ) → stringBy image k said index ≡ gives text → Plain text × (length text ≤ k)
+  by-given : (text : List ℕ) → stringBy image k said index ≡ gives text → Plain text × (length text ≤ k)
   unfolding stringBy onGeneral bounded
   by-given text e = go (fits image k) said e
     where

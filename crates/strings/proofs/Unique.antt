@@ -7,12 +7,12 @@ use Rattle.strings.specs.Answers.{saidString}
 use Rattle.strings.specs.declared.StringAnswer.{StringAnswer}
 use Rattle.strings.specs.declared.StringAnswer.the-variants as string
 
-unfoldable pub stringOf : Said → StringAnswer
+unfoldable stringOf : Said → StringAnswer
 stringOf (gives l) = string.Length (getD l 0 0)
 stringOf absent = string.Absent
 stringOf (refuses n l) = string.No (refusalOf n l)
 
-pub string-back : (r : StringAnswer) → stringOf (saidString r) ≡ r
+string-back : (r : StringAnswer) → stringOf (saidString r) ≡ r
 unfolding stringOf
 string-back (string.Length n) = refl
 string-back string.Absent = refl

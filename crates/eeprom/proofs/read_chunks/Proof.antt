@@ -7,7 +7,8 @@ use lib.ListN.{length}
 use Rattle.wire.specs.Bytes.{filled}
 use Rattle.wire.proofs.Laws.{filled-none}
 use Rattle.eeprom.specs.Image.{widthOf}
-use Rattle.eeprom.proofs.Chunks.{width-least, filled-next}
+use Rattle.wire.proofs.Stretch.{filled-next}
+use Rattle.eeprom.proofs.Chunks.{width-least}
 use Rattle.eeprom.proofs.read_chunks.Statement.{statement}
 use Rattle.eeprom.proofs.read_chunks.Tie as tie
 

@@ -49,7 +49,7 @@ use denote.Exit.{yes}
 use Rattle.refusal.specs.Said.{Said}
 use Rattle.eeprom.specs.Range.{writeSaid, writeImage}
 use Rattle.eeprom.proofs.Words.{length-write}
-use Rattle.held.specs.Range.{alone, stands, written}
+use Rattle.held.specs.Range.{alone, written}
 use Rattle.held.specs.Answers.{saidCounted}
 use Rattle.held.specs.declared.EepromRangeMut.{EepromRangeMut}
 use Rattle.held.specs.declared.Counted.{Counted}

@@ -21,15 +21,14 @@ use types.Run.{look, init, forget, stop, hop, fld, from, load, of-opd, and-then,
 use types.Part.{whole, sub, look-in, store-in}
 use types.SemTy.{Body}
 use sound.WpLaws.{FmC, fmOf, WpFn-mono}
-use denote.RattleType.{RattleType, owns}
+use denote.RattleType.{owns}
 use denote.Laws.{Is, shows}
 use denote.Memory.{mem}
 use denote.Plain.{uint-vals, uint-tells, uint-makes}
 use denote.Builtin.{u16}
-use denote.Ref.{RefT, NamedLft, MutRef, ptr-vals, mut-tells}
+use denote.Ref.{RefT, MutRef, ptr-vals, mut-tells}
 use denote.Signature.{Slot, plain, namedLft}
 use denote.Steps.{only, opens, closes, owned, peeks, heard, nothing}
-use denote.Struct.Rest.{own-put}
 use denote.Struct.Steps.{spelt}
 use denote.Struct.Laws as LL
 use denote.Enum.Laws as EL
@@ -39,7 +38,7 @@ use denote.Triple.Clauses.{ensured, lasts}
 use denote.Triple.Entry.{onEntry}
 use denote.Triple.Spec.{Meets, tripleOf}
 use denote.Triple.Table.{entered, cited}
-use denote.Triple.Walked.{says, Stays, stay-ref, stay-none, walkOf, AllGo, goes-none, goes-ref, Walks, ends-at, walked, walk-meets}
+use denote.Triple.Walked.{says, Stays, stay-ref, stay-none, walkOf, goes-none, goes-ref, Walks, ends-at, walked, walk-meets}
 use denote.Exit.{yes}
 use Rattle.eeprom.specs.Range.{skipSaid}
 use Rattle.refusal.specs.Said.{Said}
@@ -47,6 +46,7 @@ use Rattle.held.specs.Range.{alone, stands, movedTo}
 use Rattle.held.specs.Answers.{saidOutcome}
 use Rattle.held.specs.declared.EepromRange.{EepromRange}
 use Rattle.held.specs.declared.step.OutcomeStep.{OutcomeStep}
+use Rattle.held.proofs.Lent.{D, L, B, again}
 use Rattle.held.proofs.EepromRange as T
 use Rattle.held.proofs.EepromRange.Laws as T′
 use Rattle.held.proofs.step.OutcomeStep as R
@@ -61,13 +61,6 @@ use Rattle.held.proofs.EepromRange.skip_ahead_bytes.Key.{name as #self}
 use Rattle.held.proofs.EepromRange.skip_ahead_bytes as self
 use Rattle.held.proofs.EepromRange.skip_ahead_bytes.Statement as stated
 use Rattle.held.proofs.EepromRange.skip_ahead_bytes.Code as code
-
--- 'a, and the struct's type at it
-abbrev α : Lft → NamedLft
-α κ′ = record { mir = named 1; lft = κ′ }
-
-abbrev B : Lft → RattleType
-B κ′ = T.the-row (α κ′)
 
 -- `EepromRange<'a>`, as the referent's place in the signature
 abbrev behind : Slot 2
@@ -122,10 +115,6 @@ module _ {M : Type 1} (𝓤 : URA M) (H : Heap 𝓤) (A : Atoms 𝓤) (W : Given
   pos-fits : (r : OutcomeStep) (u : Val) → Is R.the-row r (u ∷ []) → r .«byte_pos» < 2 ^ 16
   pos-fits r u is = LL.owed R.the-type R′.the-laws r (u ∷ []) is .1 .0 .1
 
-  -- what image owns is kept, and byte_pos's facts are made anew
-  again : (r : OutcomeStep) → r .«byte_pos» < 2 ^ 16 → ent 𝓤 (sem 𝓤 H A (B κ′ .own h (T′.lowered h ∷ []))) (sem 𝓤 H A (B κ′ .own (h′ r) (T′.lowered (h′ r) ∷ [])))
-  again r ok = qed W (‵ (B κ′ .own h (T′.lowered h ∷ [])) ∷ []) ∵ owned ! u16 (Is u16) (uint-makes 𝓤 H A W w16) (r .«byte_pos») _ (refl, ok) $ move ! (1 ∷ 0 ∷ []) $ by ! (own-put 𝓤 H A W (T.the-type (α κ′)) (T′.the-laws (α κ′)) 1 (h .image, (h .«byte_pos», (h .end, tt))) (r .«byte_pos») (T′.lowered h))
-
   exits : (r : OutcomeStep) → Got r → Is S.the-row (r .answer) (EL.vals S.the-type S′.the-laws (r .answer)) → ent 𝓤 (sep 𝓤 (A .obs γ (B κ′ .coded .code (h′ r))) (sep 𝓤 (A .bor κ (Body (mem (B κ′)) b o γ)) (sep 𝓤 (A .lft κ q) (sep 𝓤 (A .lft κ′ q′) (emp 𝓤))))) (Post (EL.val S.the-type S′.the-laws (r .answer)))
   exits r e is =
       qed W (‵ (fobs γ (B κ′ .coded .code (h′ r))) ∷ ‵ (fbor κ (Body (mem (B κ′)) b o γ)) ∷ ‵ (flft κ q) ∷ (‵ (flft κ′ q′) ⊛ ‵ ftrue) ∷ []) ∵
@@ -140,7 +129,7 @@ module _ {M : Type 1} (𝓤 : URA M) (H : Heap 𝓤) (A : Atoms 𝓤) (W : Given
         qed W ((‵ (flft κ q) ⊛ ‵ (flft κ′ q′) ⊛ ‵ ftrue) ∷ ‵ (owns (MutRef (named 0) κ (B κ′) ∷ u16 ∷ []) x at) ∷ []) ∵ enter ! C Λ code.function (vptr b o ∷ vint w16 n ∷ []) _ $
         alloc1 ! (λ l₀. alloc1 ! (λ l₁. alloc1 ! (λ l₂. alloc1 ! (λ l₃. alloc1 ! (λ l₄. alloc1 ! (λ l₅. alloc0 ! $ params1 ! $ pass1 ! (init ! 8 refl (tt, tt)) $ pass1 ! (init ! 6 refl (tt, record { fits = fits })) $ pass0 ! $
         move ! (13 ∷ []) $ fsplit ! $ fsplit3 ! $ drop ! $ move ! (15 ∷ []) $ split ! $ move ! (2 ∷ 3 ∷ 0 ∷ []) $
-        opens ! tt (B κ′) {h = h} b o (λ vs. spelt ! (B κ′) (Is (B κ′)) (shows 𝓤 H A (B κ′)) (LL.vals (T.the-type (α κ′)) (T′.the-laws (α κ′))) (LL.tells (T.the-type (α κ′)) (T′.the-laws (α κ′))) fullShare h vs b o $
+        opens ! tt (B κ′) {h = h} b o (λ vs. spelt ! (B κ′) (Is (B κ′)) (shows 𝓤 H A (B κ′)) (LL.vals (D κ′) (L κ′)) (LL.tells (D κ′) (L κ′)) fullShare h vs b o $
         move ! (1 ∷ []) $ peeks ! (B κ′) (Is (B κ′)) (shows 𝓤 H A (B κ′)) h (T′.lowered h ∷ []) (λ was. move ! (1 ∷ 0 ∷ []) $
         -- [the struct's cell; what an EepromRange owns; the open borrow; obs; auth; 'a's token; n's; _5; …; _4; …; _3; …; _2; …; _1; …; room for _0; …]
         assigns ! (of-opd ! (load ! (from ! (hop ! (look ! 15 refl) (fld ! refl (stop !)))) (look-in ! 0 (sub ! 1 refl (whole !))))) (from ! (stop !)) (init ! 9 refl (tt, record { fits = was .1 .1 .1 .0 .1 })) $
@@ -155,7 +144,7 @@ module _ {M : Type 1} (𝓤 : URA M) (H : Heap 𝓤) (A : Atoms 𝓤) (W : Given
         rewrite ! 12 (λ (v : Val). ‵ (fat fullShare R′.mir l₃ 0 v)) (ap only (LL.tells R.the-type R′.the-laws r (u ∷ []) is)) refl $
         assigns ! (of-opd ! (load ! (from ! (fld ! refl (stop !))) (look-in ! 12 (sub ! 1 refl (whole !))))) (from ! (hop ! (look ! 16 refl) (fld ! refl (stop !)))) (store-in ! 1 (sub ! 1 refl (whole !)) (tt, record { fits = pos-fits r u is })) $
         assigns ! (of-opd ! (load ! (from ! (fld ! refl (stop !))) (look-in ! 12 (sub ! 0 refl (whole !))))) (from ! (stop !)) (init ! 18 refl (EL.lawful S.the-type S′.the-laws 𝓤 H A W tt .typed (r .answer) _ (answer-is r u is) .0)) $
-        drop ! $ move ! (1 ∷ []) $ use1 W (‵ (B κ′ .own (h′ r) (T′.lowered (h′ r) ∷ []))) (again r (pos-fits r u is)) $ move ! (1 ∷ 0 ∷ []) $ closes ! tt (B κ′) (h′ r) (T′.lowered (h′ r) ∷ []) b o $
+        drop ! $ move ! (1 ∷ []) $ use1 W (‵ (B κ′ .own (h′ r) (T′.lowered (h′ r) ∷ []))) (again κ′ h 𝓤 H A W (r .«byte_pos») (pos-fits r u is)) $ move ! (1 ∷ 0 ∷ []) $ closes ! tt (B κ′) (h′ r) (T′.lowered (h′ r) ∷ []) b o $
         -- [obs; the borrow; 's's token; 'a's token; n's; _5; …; _4; …; _3; …; _2; …; _1; …; _0; …]
         returns ! (look ! 15 refl) $ forget ! 5 refl $ forget ! 7 refl $ forget ! 9 refl $ forget ! 11 refl $ forget ! 13 refl $ forget ! 15 refl $
         move ! (15 ∷ 16 ∷ []) $ free1 ! $ move ! (13 ∷ 14 ∷ []) $ free1 ! $ move ! (11 ∷ 12 ∷ []) $ free1 ! $ move ! (9 ∷ 10 ∷ []) $ free1 ! $ move ! (7 ∷ 8 ∷ []) $ free1 ! $ move ! (5 ∷ 6 ∷ []) $ free1 ! $ free0 ! $

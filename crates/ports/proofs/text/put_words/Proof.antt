@@ -5,7 +5,8 @@ use native.Mathlib.Omega.{arith}
 use lib.ListN.{length}
 use borrow.Author.Needs.{needs}
 use Rattle.ports.specs.Display.{words}
-use Rattle.ports.proofs.Words.{Front, front-start, word-next}
+use Rattle.wire.proofs.Stretch.{Front, front-start}
+use Rattle.ports.proofs.Words.{word-next}
 use Rattle.ports.proofs.text.put_words.Statement.{statement}
 use Rattle.ports.proofs.text.put_words.Tie as tie
 
