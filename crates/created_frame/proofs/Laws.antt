@@ -20,7 +20,7 @@ use Rattle.created_frame.specs.declared.Pushed.the-variants as pushing
 use Rattle.created_frame.specs.declared.RestPush.{RestPush}
 use Rattle.created_frame.specs.declared.Rest.the-variants as resting
 use Rattle.created_frame.specs.Answers.{saidPushed, saidRest}
-use Rattle.created_frame.specs.Frame.{commandMost, dataMost, more, marked, sound, acceptable, room, withPdu, Roomy, grown, after, pushed, pushedBuilder, pushedNext, afterPush, taken, restPushed, restBuilder, restNext, afterRest}
+use Rattle.created_frame.specs.Frame.{commandMost, dataMost, more, marked, sound, acceptable, room, withPdu, Roomy, grown, pushed, pushedBuilder, pushedNext, afterPush, taken, restPushed, restBuilder, restNext, afterRest}
 
 -- ---- what an accepted state and lengths are
 

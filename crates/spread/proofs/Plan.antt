@@ -10,24 +10,13 @@ use lib.Seq.{length-take-le, drop-drop}
 use borrow.Author.Tests.{eqb-true, eqb-false, eq-eqb, ne-eqb}
 use Rattle.refusal.specs.Said.{pick}
 use Rattle.pdu.specs.Pdu.{Pdu, layout, AllFit}
-use Rattle.pdu.proofs.Rows.{layout-none, layout-length}
+use Rattle.pdu.proofs.Rows.{layout-none, layout-length, append-length, fit-append}
 use Rattle.cuts.specs.Cut.{Piece, Chain, Rising, load, Permitted, freeOf}
 use Rattle.cuts.proofs.Laws.{chain-le, free-later}
 use Rattle.created_frame.specs.Frame.{after}
 use Rattle.spread.specs.Laid.{bytesOf, pduOf, inArea, newsOf, Fitting}
 use Rattle.spread.specs.ReadBack.{Back, joined, piecesOf, Numbered}
 use Rattle.spread.proofs.Laid.{backOf, backs}
-
--- ---- rows of PDUs
-
-layout-append : (xs ys : List Pdu) → length (layout (xs ++ ys)) ≡ length (layout xs) + length (layout ys)
-layout-append [] ys = omega (arith, layout-none)
-layout-append (x ∷ xs) ys = omega (arith, layout-length x (xs ++ ys), layout-length x xs, layout-append xs ys)
-
-fit-append : (xs ys : List Pdu) → AllFit xs → AllFit ys → AllFit (xs ++ ys)
-unfolding AllFit
-fit-append [] ys a b = b
-fit-append (x ∷ xs) ys a b = (a .0, fit-append xs ys (a .1) b)
 
 -- ---- areas are numbered from 1, and never fall
 
@@ -192,7 +181,7 @@ module _ (command address : ℕ) (image : List ℕ) where
     unfolding Fitting newsOf
     fitting zero m index size used olds ps p s u v a = tt
     fitting (suc d) m index size used olds ps p s u v a =
-        (omega (arith, layout-append olds (inArea command address image 1 index ps), area-load 1 index ps, p .fits 1), fit-append olds (inArea command address image 1 index ps) a (area-fit 1 index 0 ps (p .chain) most), fit-later d 1 index size ps (p .chain) most later)
+        (omega (arith, append-length olds (inArea command address image 1 index ps), area-load 1 index ps, p .fits 1), fit-append olds (inArea command address image 1 index ps) a (area-fit 1 index 0 ps (p .chain) most), fit-later d 1 index size ps (p .chain) most later)
       where
         most : (k : ℕ) → load k ps ≤ 2047
         most k = go (eqb k 1) (p .fits k)
