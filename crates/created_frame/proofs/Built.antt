@@ -65,7 +65,7 @@ zeros n = replicate n 0
 drop-zeros : (k n : ℕ) → drop k (zeros (k + n)) ≡ zeros n
 drop-zeros k n = rw (← replicate-append-replicate {A = ℕ} k n 0) (drop-at (zeros k) (zeros n) k (length-replicate {A = ℕ} k 0))
 
-made-length : (index command address : ℕ) (bytes : List ℕ) (len : ℕ) → length bytes ≤ len → length (made index command address bytes len .payload) ≡ len
+pub made-length : (index command address : ℕ) (bytes : List ℕ) (len : ℕ) → length bytes ≤ len → length (made index command address bytes len .payload) ≡ len
 made-length index command address bytes len h = simp (length-append, length-replicate) (omega arith)
 
 header-head : (index command address : ℕ) (bytes : List ℕ) (len : ℕ) → length bytes ≤ len
@@ -179,7 +179,7 @@ module _ (ps : List Pdu) (xs : List ℕ) (b : Builder) (h : Built ps xs b) where
     push-by over true false e = unchanged
     push-by over false r e = unchanged
 
-    pub built-push : (over : ℕ)
+    built-push : (over : ℕ)
         → Built (ps ++ pushAdds (length xs) b index command address given over) (afterPush xs b index command address given over) (pushedBuilder (length xs) b command (length given) over)
     unfolding pushAdds afterPush pushedBuilder
     built-push over = push-by over (acceptable (length xs) b command (length given) over) _ refl

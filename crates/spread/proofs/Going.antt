@@ -238,7 +238,7 @@ module _ (count size command address : ℕ) (image : List ℕ) (whole : Run) whe
       sym (take-append-drop k states) ∙ rw (t, g .states-free, l) refl in
       (rw l refl, ((p, n), a))
 
-  pub going-start : (row : List ℕ) (first : Builder) (index : ℕ) → Fillable (length row) size count first command address (length image)
+  going-start : (row : List ℕ) (first : Builder) (index : ℕ) → Fillable (length row) size count first command address (length image)
       → whole ≡ rowFrom size command address count (take size row) first index 0 row image → Going (take size row) first row (replicate 32 fresh) 0 0 0 index
   going-start row first index f e =
       record {

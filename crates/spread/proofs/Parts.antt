@@ -19,7 +19,7 @@ use Rattle.spread.specs.Row.{zeroed}
 part-is : (at size : ℕ) (xs : List ℕ) → take (at + size - at) (drop at xs) ≡ take size (drop at xs)
 part-is at size xs = ap (λ (z : ℕ). take z (drop at xs)) (add-sub-cancel-left at size)
 
-part-length : (at size : ℕ) (xs : List ℕ) → at + size ≤ length xs → length (take size (drop at xs)) ≡ size
+pub part-length : (at size : ℕ) (xs : List ℕ) → at + size ≤ length xs → length (take size (drop at xs)) ≡ size
 part-length at size xs h = simp (length-take, length-drop) (omega arith)
 
 -- one that is opened
