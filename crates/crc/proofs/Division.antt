@@ -60,7 +60,7 @@ assoc (suc k) a b c h i j =
     ∙ sym (xor-step a (bitXor b c))
 
 -- ---- bytes
-unfoldable pub Byte : ℕ → Type 0
+unfoldable Byte : ℕ → Type 0
 Byte n = n < 256
 
 xor-byte : (a b : ℕ) → Byte a → Byte b → Byte (bitXor a b)

@@ -1,20 +1,22 @@
 -- What our builder leaves in an area is read back. A push turns a row of PDUs and zeros into that row with one more, and fewer zeros; the rest is induction over the calls.
 use mathlib.Core.Path.{_≡_, refl, sym, ap, _∙_}
+use mathlib.Core.Logic.{_≢_}
 use mathlib.Core.Bool.{Bool, true, false}
 use mathlib.Core.List.{List, [], _∷_, _++_, append-assoc, append-nil, map}
-use Prim.Native.Nat.{ℕ, zero, suc, _+_, _-_, _*_, _/_, _%_, _≤_, _<_, max, min}
+use Prim.Native.Nat.{ℕ, suc, _+_, _-_, _*_, _/_, _%_, _≤_, _<_, max}
 use native.Mathlib.Omega.{arith}
 use native.Mathlib.Nat.{suc-add, zero-add}
-use borrow.Author.Tests.{leb-true, le-leb, ne-eqb}
-use lib.Dec.{leb, eqb}
+use borrow.Author.Tests.{leb-true, le-leb, ne-eqb, eqb-false}
+use lib.Dec.{eqb}
 use lib.ListN.{length, set, take, drop, replicate, length-append, length-take, length-replicate, replicate-append-replicate}
-use lib.Seq.{take-at, drop-at, drop-append-add}
+use lib.Seq.{take-at, drop-at}
 use Rattle.refusal.specs.Said.{pick}
 use Rattle.wire.specs.Bytes.{byteAt, overlay}
+use Rattle.wire.proofs.Laws.{byte-behind}
+use Rattle.wire.proofs.Overlay.{overlay-behind}
 use Rattle.pdu.specs.Pdu.{areaMost, Pdu, Fits, flagsOf, headerOf, head, pduBytes, layout, chained, lastAt, AllFit, frameHeader}
 use Rattle.pdu.specs.Read.{readOf, read, shownAll, payloadOf}
-use Rattle.pdu.proofs.Laws.{byte-behind}
-use Rattle.pdu.proofs.Rows.{pdu-length, layout-none, layout-length, chained-length, counted, last-in, layout-snoc, last-snoc, fit-snoc}
+use Rattle.pdu.proofs.Rows.{pdu-length, layout-none, layout-length, append-length, chained-length, counted, last-in, layout-snoc, last-snoc, fit-append}
 use Rattle.pdu.proofs.Reading.{frame-read, frame-payloads}
 use Rattle.created_frame.specs.declared.Builder.{Builder}
 use Rattle.created_frame.specs.Frame.{more, marked, sound, acceptable, room, withPdu, grown, fresh, afterOpen, pushedBuilder, afterPush, taken, restBuilder, afterRest}
@@ -50,17 +52,12 @@ more-layout (q ∷ ps) p rest fit =
     rw (e, append-assoc (pduBytes p 1) (layout (q ∷ ps)) rest) (more-behind (pduBytes p 1) (layout (q ∷ ps) ++ rest) (lastAt (q ∷ ps) + 7)
     ∙ ap (λ (l : List ℕ). pduBytes p 1 ++ l) (more-layout ps q rest (fit .1)) ∙ sym (append-assoc (pduBytes p 1) (chained (q ∷ ps)) rest))
 
-pub marked-layout : (ps : List Pdu) (rest : List ℕ) → AllFit ps → marked (layout ps ++ rest) (length ps) (lastAt ps) ≡ chained ps ++ rest
+marked-layout : (ps : List Pdu) (rest : List ℕ) → AllFit ps → marked (layout ps ++ rest) (length ps) (lastAt ps) ≡ chained ps ++ rest
 unfolding marked layout chained
 marked-layout [] rest fit = refl
 marked-layout (p ∷ ps) rest fit = rw (ne-eqb (suc (length ps)) 0 (λ z. omega arith)) (more-layout ps p rest fit)
 
 -- ---- a PDU laid over zeros
-
--- what is laid just behind a list
-overlay-behind : (xs rest ys : List ℕ) → overlay (xs ++ rest) (length xs) ys ≡ xs ++ (ys ++ drop (length ys) rest)
-unfolding overlay
-overlay-behind xs rest ys = rw (take-at xs rest (length xs) refl, drop-append-add xs rest (length ys)) (append-assoc xs ys (drop (length ys) rest))
 
 abbrev zeros : ℕ → List ℕ
 zeros n = replicate n 0
@@ -68,7 +65,7 @@ zeros n = replicate n 0
 drop-zeros : (k n : ℕ) → drop k (zeros (k + n)) ≡ zeros n
 drop-zeros k n = rw (← replicate-append-replicate {A = ℕ} k n 0) (drop-at (zeros k) (zeros n) k (length-replicate {A = ℕ} k 0))
 
-made-length : (index command address : ℕ) (bytes : List ℕ) (len : ℕ) → length bytes ≤ len → length (made index command address bytes len .payload) ≡ len
+pub made-length : (index command address : ℕ) (bytes : List ℕ) (len : ℕ) → length bytes ≤ len → length (made index command address bytes len .payload) ≡ len
 made-length index command address bytes len h = simp (length-append, length-replicate) (omega arith)
 
 header-head : (index command address : ℕ) (bytes : List ℕ) (len : ℕ) → length bytes ≤ len
@@ -105,6 +102,10 @@ module _ (ps : List Pdu) (xs : List ℕ) (b : Builder) (h : Built ps xs b) where
         let l : length xs ≤ 2047 = h .small in
         record { address-fits = a; extra-fits = omega arith; irq-fits = omega arith; payload-fits = rw (made-length index command address given len le) (omega arith); counter-fits = omega arith }
 
+    one-fits : AllFit (q ∷ [])
+    unfolding AllFit
+    one-fits = (made-fits, tt)
+
     laid-one : withPdu xs b index command address len given ≡ layout (ps ++ (q ∷ [])) ++ zeros (h .free - (len + 12))
     laid-one =
         let bl : length xs ≡ b .used + h .free = built-length in
@@ -121,13 +122,12 @@ module _ (ps : List Pdu) (xs : List ℕ) (b : Builder) (h : Built ps xs b) where
         ∙ ap (λ (t : List ℕ). t ++ zeros (h .free - (len + 12))) (sym (layout-snoc ps q))
 
     -- one PDU more
-    pub built-more : Built (ps ++ (q ∷ [])) (withPdu xs b index command address len given) (grown b len)
+    built-more : Built (ps ++ (q ∷ [])) (withPdu xs b index command address len given) (grown b len)
     built-more =
         let l : length xs ≤ 2047 = h .small in
         let bl : length xs ≡ b .used + h .free = built-length in
         let n : length (layout (ps ++ (q ∷ []))) ≡ length (layout ps) + (len + 12) =
-        ap length (layout-snoc ps q) ∙ length-append (chained ps) (pduBytes q 0)
-        ∙ omega (arith, chained-length ps, pdu-length q 0, made-length index command address given len le) in
+        omega (arith, append-length ps (q ∷ []), layout-length q [], layout-none, made-length index command address given len le) in
         let w : length (withPdu xs b index command address len given) ≡ length (layout (ps ++ (q ∷ []))) + (h .free - (len + 12)) =
         ap length laid-one ∙ length-append (layout (ps ++ (q ∷ []))) (zeros (h .free - (len + 12))) ∙ rw (length-replicate {A = ℕ} (h .free - (len + 12)) 0) refl in
         record {
@@ -137,7 +137,7 @@ module _ (ps : List Pdu) (xs : List ℕ) (b : Builder) (h : Built ps xs b) where
           used-is = omega (arith, h .used-is);
           count-is = ap (λ (k : ℕ). k + 1) (h .count-is) ∙ sym (length-append ps (q ∷ []));
           last-is = h .used-is ∙ sym (last-snoc ps q);
-          fit = fit-snoc ps q (h .fit) made-fits;
+          fit = fit-append ps (q ∷ []) (h .fit) one-fits;
         }
 
   -- it is read back: all its PDUs, in order, with all fields
@@ -165,10 +165,6 @@ unfolding layout lastAt AllFit
 built-open size h =
     record { free = size; bytes = refl; small = rw (length-replicate {A = ℕ} size 0) h; used-is = refl; count-is = refl; last-is = refl; fit = tt }
 
-pub some : (t : ℕ) → eqb t 0 ≡ false → 0 < t
-some zero e = let z : _≡_ {A = ℕ} 0 1 = cc in absurd (omega arith)
-some (suc t) e = omega arith
-
 module _ (ps : List Pdu) (xs : List ℕ) (b : Builder) (h : Built ps xs b) where
   unchanged : Built (ps ++ []) xs b
   unchanged = rw append-nil h
@@ -183,7 +179,7 @@ module _ (ps : List Pdu) (xs : List ℕ) (b : Builder) (h : Built ps xs b) where
     push-by over true false e = unchanged
     push-by over false r e = unchanged
 
-    pub built-push : (over : ℕ)
+    built-push : (over : ℕ)
         → Built (ps ++ pushAdds (length xs) b index command address given over) (afterPush xs b index command address given over) (pushedBuilder (length xs) b command (length given) over)
     unfolding pushAdds afterPush pushedBuilder
     built-push over = push-by over (acceptable (length xs) b command (length given) over) _ refl
@@ -193,7 +189,7 @@ module _ (ps : List Pdu) (xs : List ℕ) (b : Builder) (h : Built ps xs b) where
         Built (ps ++ pick t (pick e [] (made index command address (take n given) n ∷ [])) []) (pick t (pick e xs (withPdu xs b index command address n (take n given))) xs) (pick t (pick e b (grown b n)) b)
     rest-by true false e =
         let n = taken (length xs) (b .used) (length given) in
-        let pos : 0 < n = some n e in
+        let pos : n ≢ 0 = eqb-false n 0 e in
         built-more ps xs b h index command address (take n given) n a (simp length-take (omega arith)) (omega arith)
     rest-by true true e = unchanged
     rest-by false r e = unchanged

@@ -20,7 +20,7 @@ use Rattle.created_frame.specs.declared.Pushed.the-variants as pushing
 use Rattle.created_frame.specs.declared.RestPush.{RestPush}
 use Rattle.created_frame.specs.declared.Rest.the-variants as resting
 use Rattle.created_frame.specs.Answers.{saidPushed, saidRest}
-use Rattle.created_frame.specs.Frame.{commandMost, dataMost, more, marked, sound, acceptable, room, withPdu, Roomy, grown, after, pushed, pushedBuilder, pushedNext, afterPush, taken, restPushed, restBuilder, restNext, afterRest}
+use Rattle.created_frame.specs.Frame.{commandMost, dataMost, more, marked, sound, acceptable, room, withPdu, Roomy, grown, pushed, pushedBuilder, pushedNext, afterPush, taken, restPushed, restBuilder, restNext, afterRest}
 
 -- ---- what an accepted state and lengths are
 
@@ -31,27 +31,22 @@ pub record Sound (size : ℕ) (b : Builder) : Type 0 where
   pub counted : pduOverhead * b .count ≤ b .used
   pub header-in : 0 < b .count → b .last + headerBytes ≤ b .used
 
-record Stated (b : Builder) : Type 0 where
-  counted : pduOverhead * b .count ≤ b .used
-  header-in : 0 < b .count → b .last + headerBytes ≤ b .used
-
-stated : (b : Builder) (t : Bool) → eqb (b .count) 0 ≡ t
-    → pick t (eqb (b .used) 0) (leb (pduOverhead * b .count) (b .used) && leb (b .last + headerBytes) (b .used)) ≡ true → Stated b
-stated b true q e =
-    let n : b .count ≡ 0 = eqb-true _ _ q in
-    let u : b .used ≡ 0 = eqb-true _ _ e in
-    record { counted = omega arith; header-in = λ h. omega arith }
-stated b false q e =
-    let p = both _ _ e in
-    record { counted = leb-true _ _ (p .0); header-in = λ h. leb-true _ _ (p .1) }
-
 pub sound-facts : (size : ℕ) (b : Builder) → sound size b ≡ true → Sound size b
 unfolding sound
 sound-facts size b e =
     let t = both _ _ e in
     let v = both _ _ (t .0) in
-    let w = stated b (eqb (b .count) 0) refl (t .1) in
-    record { small = leb-true _ _ (v .0); inside = leb-true _ _ (v .1); counted = w .counted; header-in = w .header-in }
+    go (eqb (b .count) 0) refl (leb-true _ _ (v .0)) (leb-true _ _ (v .1)) (t .1)
+  where
+    go : (t : Bool) → eqb (b .count) 0 ≡ t → size ≤ areaMost → b .used ≤ size
+        → pick t (eqb (b .used) 0) (leb (pduOverhead * b .count) (b .used) && leb (b .last + headerBytes) (b .used)) ≡ true → Sound size b
+    go true q s i e =
+        let n : b .count ≡ 0 = eqb-true _ _ q in
+        let u : b .used ≡ 0 = eqb-true _ _ e in
+        record { small = s; inside = i; counted = omega arith; header-in = λ h. omega arith }
+    go false q s i e =
+        let p = both _ _ e in
+        record { small = s; inside = i; counted = leb-true _ _ (p .0); header-in = λ h. leb-true _ _ (p .1) }
 
 -- .. and those that `acceptable` tests
 pub record Accepted (size : ℕ) (b : Builder) (command given over : ℕ) : Type 0 where

@@ -1,23 +1,23 @@
 -- What a push does to state and index: by the outcomes of its tests. A state that comes back is sound, and a refusal changes nothing but the index at 8.
-use mathlib.Core.Path.{_≡_, refl, sym, ap, _∙_}
+use mathlib.Core.Path.{_≡_, refl, sym}
+use mathlib.Core.Logic.{_≢_}
 use mathlib.Core.Bool.{Bool, true, false}
 use mathlib.Core.List.{List, [], _∷_}
-use Prim.Native.Nat.{ℕ, zero, suc, _+_, _-_, _*_, _%_, _≤_, _<_, max, min}
+use Prim.Native.Nat.{ℕ, _+_, _*_, _≤_, max}
 use native.Mathlib.Omega.{arith}
-use borrow.Author.Tests.{leb-true, le-leb, ne-eqb}
+use borrow.Author.Tests.{leb-true, le-leb, ne-eqb, eqb-false}
 use lib.Dec.{leb, eqb}
-use lib.ListN.{length, take}
+use lib.ListN.{length}
 use Rattle.refusal.specs.Said.{Said, gives, absent, refuses, pick}
 use Rattle.pdu.specs.Pdu.{areaMost}
 use Rattle.created_frame.specs.declared.Builder.{Builder}
-use Rattle.created_frame.specs.Frame.{commandMost, dataMost, sound, acceptable, room, withPdu, grown, after, fresh, handle, pushed, pushedBuilder, pushedNext, afterPush, taken, restPushed, restBuilder, restNext, afterRest}
-use Rattle.created_frame.proofs.Laws.{Sound, sound-facts}
-use Rattle.created_frame.proofs.Built.{some}
+use Rattle.created_frame.specs.Frame.{commandMost, dataMost, sound, acceptable, room, grown, after, fresh, handle, pushed, pushedBuilder, pushedNext, afterPush, taken, restPushed, restBuilder, restNext, afterRest}
+use Rattle.created_frame.proofs.Laws.{sound-facts}
 
 -- ---- a state that comes back is sound, also where it did not come from opening
 
 -- with one PDU more, where there is room
-pub grown-sound : (size : ℕ) (b : Builder) (len : ℕ) → sound size b ≡ true → b .used + (len + 12) ≤ size → sound size (grown b len) ≡ true
+grown-sound : (size : ℕ) (b : Builder) (len : ℕ) → sound size b ≡ true → b .used + (len + 12) ≤ size → sound size (grown b len) ≡ true
 unfolding sound
 grown-sound size b len s h =
     let f = sound-facts size b s in
@@ -45,7 +45,7 @@ module _ (size : ℕ) (b : Builder) (s : sound size b ≡ true) where
     where
       go : (t e : Bool) → eqb (taken size (b .used) given) 0 ≡ e → sound size (pick t (pick e b (grown b (taken size (b .used) given))) b) ≡ true
       go true false e =
-          let pos : 0 < taken size (b .used) given = some (taken size (b .used) given) e in
+          let pos : taken size (b .used) given ≢ 0 = eqb-false (taken size (b .used) given) 0 e in
           grown-sound size b (taken size (b .used) given) s (omega arith)
       go true true e = s
       go false r e = s
@@ -79,13 +79,13 @@ module _ (size : ℕ) (b : Builder) (s : sound size b ≡ true) where
     unfolding restPushed
     rest-said = rw (accepts command given 0 c g (omega arith)) refl
 
-    pub rest-state : restBuilder size b command given ≡ pick (eqb (taken size (b .used) given) 0) b (grown b (taken size (b .used) given))
-    unfolding restBuilder
-    rest-state = rw (accepts command given 0 c g (omega arith)) refl
-
     pub rest-next : restNext size b index command given ≡ pick (eqb (taken size (b .used) given) 0) index (after index)
     unfolding restNext
     rest-next = rw (accepts command given 0 c g (omega arith)) refl
+
+-- after index 255 comes index 0
+pub index-wraps : after 255 ≡ 0
+index-wraps = refl
 
 -- ---- a refused push
 
@@ -111,13 +111,7 @@ push-refused xs b index command address bytes over number l e = go _ _ refl refl
         let n : 14 ≡ number = cc in
         record { area-kept = simp p; state-kept = simp p; index-next = rw (← n) (simp p) }
 
--- ---- a push of as much as fits: the area, where it is accepted; and all, where it is absent or refused
-
-pub rest-area : (xs : List ℕ) (b : Builder) (index command address : ℕ) (bytes : List ℕ) → sound (length xs) b ≡ true → command ≤ commandMost → length bytes ≤ dataMost
-    → let n = taken (length xs) (b .used) (length bytes) in
-    afterRest xs b index command address bytes ≡ pick (eqb n 0) xs (withPdu xs b index command address n (take n bytes))
-unfolding afterRest
-rest-area xs b index command address bytes s c g = rw (accepts (length xs) b s command (length bytes) 0 c g (omega arith)) refl
+-- ---- a push of as much as fits that is absent or refused
 
 pub record RestUnchanged (xs : List ℕ) (b : Builder) (index command address : ℕ) (bytes : List ℕ) : Type 0 where
   pub area-kept : afterRest xs b index command address bytes ≡ xs

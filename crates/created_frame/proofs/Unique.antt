@@ -1,13 +1,13 @@
 -- An answer is known from what it says, by an inverse: so each promise allows one result.
 use mathlib.Core.Path.{_≡_, refl, sym, ap, _∙_}
-use mathlib.Core.Bool.{Bool, true, false}
+use mathlib.Core.Bool.{true, false}
 use mathlib.Core.List.{List}
 use Prim.Native.Nat.{ℕ, suc}
 use lib.ListN.{getD}
 use lib.Dec.{eqb}
 use Rattle.refusal.specs.Said.{Said, gives, absent, refuses}
 use Rattle.refusal.specs.declared.Refusal.the-variants.{BadArgument}
-use Rattle.refusal.proofs.Unique.{refusalOf, back}
+use Rattle.refusal.proofs.Unique.{unique, refusalOf, back}
 use Rattle.created_frame.specs.Answers.{saidOpened, saidPushed, saidRest, saidCan}
 use Rattle.created_frame.specs.declared.Builder.{Builder}
 use Rattle.created_frame.specs.declared.PduResponseHandle.{PduResponseHandle}
@@ -28,33 +28,33 @@ handleOf l i = record { start = getD l i 0; size = getD l (suc i) 0; index = get
 
 -- ---- opening
 
-unfoldable pub openedOf : Said → Opened
+unfoldable openedOf : Said → Opened
 openedOf (gives l) = opening.Ready (record { used = getD l 0 0; count = getD l 1 0; last = getD l 2 0 })
 openedOf absent = opening.No BadArgument
 openedOf (refuses n l) = opening.No (refusalOf n l)
 
-pub opened-back : (r : Opened) → openedOf (saidOpened r) ≡ r
+opened-back : (r : Opened) → openedOf (saidOpened r) ≡ r
 unfolding openedOf
 opened-back (opening.Ready b) = refl
 opened-back (opening.No x) = ap opening.No (back x)
 
 pub opened-unique : (a b : Opened) (s : Said) → saidOpened a ≡ s → saidOpened b ≡ s → a ≡ b
-opened-unique a b s p q = sym (opened-back a) ∙ ap openedOf (p ∙ sym q) ∙ opened-back b
+opened-unique = unique saidOpened openedOf opened-back
 
 -- ---- a push
 
-unfoldable pub pushedOf : Said → Pushed
+unfoldable pushedOf : Said → Pushed
 pushedOf (gives l) = pushing.Done (handleOf l 0)
 pushedOf absent = pushing.No BadArgument
 pushedOf (refuses n l) = pushing.No (refusalOf n l)
 
-pub pushed-back : (r : Pushed) → pushedOf (saidPushed r) ≡ r
+pushed-back : (r : Pushed) → pushedOf (saidPushed r) ≡ r
 unfolding pushedOf
 pushed-back (pushing.Done h) = refl
 pushed-back (pushing.No x) = ap pushing.No (back x)
 
-pub pushed-unique : (a b : Pushed) (s : Said) → saidPushed a ≡ s → saidPushed b ≡ s → a ≡ b
-pushed-unique a b s p q = sym (pushed-back a) ∙ ap pushedOf (p ∙ sym q) ∙ pushed-back b
+pushed-unique : (a b : Pushed) (s : Said) → saidPushed a ≡ s → saidPushed b ≡ s → a ≡ b
+pushed-unique = unique saidPushed pushedOf pushed-back
 
 -- what is promised of one result of `push_pdu`
 abbrev pub PushGives : Said → Builder → ℕ → Push → Type 0
@@ -71,19 +71,19 @@ push-unique s b n x y p q =
 
 -- ---- a push of as much as fits
 
-unfoldable pub restOf : Said → Rest
+unfoldable restOf : Said → Rest
 restOf (gives l) = resting.Done (getD l 0 0) (handleOf l 1)
 restOf absent = resting.Absent
 restOf (refuses n l) = resting.No (refusalOf n l)
 
-pub rest-back : (r : Rest) → restOf (saidRest r) ≡ r
+rest-back : (r : Rest) → restOf (saidRest r) ≡ r
 unfolding restOf
 rest-back (resting.Done n h) = refl
 rest-back resting.Absent = refl
 rest-back (resting.No x) = ap resting.No (back x)
 
-pub rest-unique : (a b : Rest) (s : Said) → saidRest a ≡ s → saidRest b ≡ s → a ≡ b
-rest-unique a b s p q = sym (rest-back a) ∙ ap restOf (p ∙ sym q) ∙ rest-back b
+rest-unique : (a b : Rest) (s : Said) → saidRest a ≡ s → saidRest b ≡ s → a ≡ b
+rest-unique = unique saidRest restOf rest-back
 
 -- what is promised of one result of `push_pdu_slice_rest`
 abbrev pub RestGives : Said → Builder → ℕ → RestPush → Type 0
@@ -100,16 +100,16 @@ rest-push-unique s b n x y p q =
 
 -- ---- whether a payload has room
 
-unfoldable pub canOf : Said → CanPush
+unfoldable canOf : Said → CanPush
 canOf (gives l) = asking.Room (eqb (getD l 0 0) 1)
 canOf absent = asking.No BadArgument
 canOf (refuses n l) = asking.No (refusalOf n l)
 
-pub can-back : (r : CanPush) → canOf (saidCan r) ≡ r
+can-back : (r : CanPush) → canOf (saidCan r) ≡ r
 unfolding canOf
 can-back (asking.Room true) = refl
 can-back (asking.Room false) = refl
 can-back (asking.No x) = ap asking.No (back x)
 
 pub can-unique : (a b : CanPush) (s : Said) → saidCan a ≡ s → saidCan b ≡ s → a ≡ b
-can-unique a b s p q = sym (can-back a) ∙ ap canOf (p ∙ sym q) ∙ can-back b
+can-unique = unique saidCan canOf can-back

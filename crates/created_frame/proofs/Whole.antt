@@ -1,30 +1,30 @@
 -- The whole area after a PDU more, byte by byte, whatever it held before: the four places where a byte can lie.
-use mathlib.Core.Path.{_≡_, refl, sym, ap, _∙_}
+use mathlib.Core.Path.{_≡_, refl, _∙_}
 use mathlib.Core.Logic.{_≢_}
 use mathlib.Core.Bool.{Bool, true, false}
-use mathlib.Core.List.{List, [], _∷_, _++_}
-use Prim.Native.Nat.{ℕ, _+_, _-_, _%_, _≤_, _<_, max, min}
+use mathlib.Core.List.{List, _++_}
+use Prim.Native.Nat.{ℕ, _+_, _%_, _≤_, _<_}
 use native.Mathlib.Omega.{arith}
-use borrow.Author.Tests.{leb-true, ne-eqb, eqb-false}
-use lib.Dec.{leb, eqb}
-use lib.ListN.{length, take, drop, length-append, length-take, List·getD-append}
-use lib.Seq.{getD-append-add, getD-take, getD-drop, getD-set-same, getD-set-other}
+use borrow.Author.Tests.{ne-eqb, eqb-false}
+use lib.Dec.{eqb}
+use lib.ListN.{length, take, length-append, length-take}
+use lib.Seq.{getD-set-same, getD-set-other}
 use Rattle.refusal.specs.Said.{pick}
-use Rattle.wire.specs.Bytes.{byteAt, overlay}
+use Rattle.wire.specs.Bytes.{byteAt}
 use Rattle.wire.proofs.Laws.{length-overlay}
 use Rattle.wire.proofs.Overlay.{overlay-before, overlay-inside, overlay-past}
 use Rattle.pdu.specs.Pdu.{headerOf}
 use Rattle.created_frame.specs.declared.Builder.{Builder}
-use Rattle.created_frame.specs.Frame.{more, marked, acceptable, room, withPdu, Roomy, afterPush, taken, afterRest}
+use Rattle.created_frame.specs.Frame.{more, marked, acceptable, withPdu, Roomy, taken, afterRest}
 use Rattle.created_frame.proofs.Laws.{accepted, has-room, length-marked}
 
 -- ---- more-follows
 
-pub marked-there : (xs : List ℕ) (count last : ℕ) → 0 < count → last + 7 < length xs → byteAt (marked xs count last) (last + 7) ≡ byteAt xs (last + 7) % 128 + 128
+marked-there : (xs : List ℕ) (count last : ℕ) → 0 < count → last + 7 < length xs → byteAt (marked xs count last) (last + 7) ≡ byteAt xs (last + 7) % 128 + 128
 unfolding marked more byteAt
 marked-there xs count last some lt = rw (ne-eqb count 0 (λ z. omega arith)) (getD-set-same xs (last + 7) _ 255 lt)
 
-pub marked-else : (xs : List ℕ) (count last i : ℕ) → (0 < count → i ≢ last + 7) → byteAt (marked xs count last) i ≡ byteAt xs i
+marked-else : (xs : List ℕ) (count last i : ℕ) → (0 < count → i ≢ last + 7) → byteAt (marked xs count last) i ≡ byteAt xs i
 unfolding marked more byteAt
 marked-else xs count last i ne = go (eqb count 0) refl
   where
@@ -44,7 +44,7 @@ module _ (xs : List ℕ) (b : Builder) (index command address len : ℕ) (bytes 
       omega (arith, length-marked xs (b .count) (b .last), r .fits, r .given-fits)
 
   -- it is as long as it was
-  pub length-with : length (withPdu xs b index command address len bytes) ≡ length xs
+  length-with : length (withPdu xs b index command address len bytes) ≡ length xs
   length-with = length-overlay (marked xs (b .count) (b .last)) (b .used) ys inside ∙ length-marked xs (b .count) (b .last)
 
   -- its header and the given bytes are written
@@ -68,21 +68,9 @@ module _ (xs : List ℕ) (b : Builder) (index command address len : ℕ) (bytes 
       overlay-past (marked xs (b .count) (b .last)) (b .used) ys inside i (omega (arith, length-append (headerOf command index address len 0) bytes))
       ∙ marked-else xs (b .count) (b .last) i (λ some e. omega (arith, r .header-in some))
 
--- ---- no push changes the area's length
+-- ---- a push of as much as fits keeps the area's length
 
 module _ (xs : List ℕ) (b : Builder) (index command address : ℕ) (bytes : List ℕ) where
-  pub length-after-push : (over : ℕ) → length (afterPush xs b index command address bytes over) ≡ length xs
-  unfolding afterPush room
-  length-after-push over = go _ _ refl refl
-    where
-      go : (t r : Bool) → acceptable (length xs) b command (length bytes) over ≡ t → leb (b .used + (max (length bytes) over + 12)) (length xs) ≡ r
-          → length (pick t (pick r (withPdu xs b index command address (max (length bytes) over) bytes) xs) xs) ≡ length xs
-      go true true e f =
-          length-with xs b index command address (max (length bytes) over) bytes
-          (has-room _ _ _ _ (accepted (length xs) b command (length bytes) over e .state) (leb-true _ _ f) (omega arith))
-      go true false e f = refl
-      go false r e f = refl
-
   pub length-after-rest : length (afterRest xs b index command address bytes) ≡ length xs
   unfolding afterRest
   length-after-rest = go _ _ refl refl

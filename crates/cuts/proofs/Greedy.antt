@@ -27,7 +27,7 @@ piece-rising lo m a o zero ps h k r q = q
 piece-rising lo m a o (suc t) ps h k r q = (h, k, r)
 
 -- what holds of the last area with and without the piece's own holds of the last area
-pub piece-last : (P : ℕ → Type 0) (l a o t : ℕ) (ps : List Piece) → P (lastArea l ps) → P (lastArea a ps) → P (lastArea l (piece a o t ps))
+piece-last : (P : ℕ → Type 0) (l a o t : ℕ) (ps : List Piece) → P (lastArea l ps) → P (lastArea a ps) → P (lastArea l (piece a o t ps))
 unfolding lastArea
 piece-last P l a o zero ps h k = h
 piece-last P l a o (suc t) ps h k = k

@@ -1,11 +1,10 @@
 -- Laws of cuttings, each by going along the pieces; at the end, that a permitted cutting carries no more than its areas have room for.
-use mathlib.Core.Path.{_≡_, refl, sym, ap, _∙_}
+use mathlib.Core.Path.{_≡_, refl}
 use Prim.Native.Nat.{ℕ, zero, suc, _+_, _-_, _*_, _≤_, _<_}
 use native.Mathlib.Omega.{arith}
 use native.Mathlib.Nat.{suc-mul}
-use mathlib.Core.List.{List, [], _∷_, _++_}
+use mathlib.Core.List.{List, [], _∷_}
 use mathlib.Core.Bool.{Bool, true, false}
-use lib.ListN.{length}
 use lib.Dec.{eqb, ltb}
 use borrow.Author.Tests.{eqb-true, eqb-false, ltb-true, ltb-false, eq-eqb, ne-eqb, le-ltb, lt-ltb}
 use Rattle.refusal.specs.Said.{pick}
@@ -20,18 +19,6 @@ pub chain-le : (o n : ℕ) (ps : List Piece) → Chain o n ps → o ≤ n
 unfolding Chain
 chain-le o n [] c = omega arith
 chain-le o n (p ∷ ps) c = omega (arith, chain-le (o + p .size) n ps (c .2))
-
--- there are no more pieces than bytes
-pub chain-count : (o n : ℕ) (ps : List Piece) → Chain o n ps → o + length ps ≤ n
-unfolding Chain
-chain-count o n [] c = omega arith
-chain-count o n (p ∷ ps) c = omega (arith, c .1, chain-count (o + p .size) n ps (c .2))
-
--- a piece behind the others
-pub chain-snoc : (ps : List Piece) (p : Piece) (o n : ℕ) → Chain o n ps → p .offset ≡ n → 1 ≤ p .size → Chain o (n + p .size) (ps ++ (p ∷ []))
-unfolding Chain
-chain-snoc [] p o n c e h = (e ∙ sym c, h, ap (λ (z : ℕ). z + p .size) c)
-chain-snoc (q ∷ ps) p o n c e h = (c .0, c .1, chain-snoc ps p (o + q .size) n (c .2) e h)
 
 -- ---- Rising and lastArea
 
@@ -67,17 +54,6 @@ unfolding load Rising
 rising-past k lo m [] h r = refl
 rising-past k lo m (p ∷ ps) h r = rw (ne-eqb (p .area) k (λ e. omega (arith, r .1))) (omega (arith, rising-past k (p .area) m ps h (r .2)))
 
--- a piece behind the others
-pub rising-snoc : (ps : List Piece) (p : Piece) (lo m : ℕ) → Rising lo m ps → lastArea lo ps ≤ p .area → p .area ≤ m → Rising lo m (ps ++ (p ∷ []))
-unfolding Rising lastArea
-rising-snoc [] p lo m r h k = (h, k, tt)
-rising-snoc (q ∷ ps) p lo m r h k = (r .0, r .1, rising-snoc ps p (q .area) m (r .2) h k)
-
-pub last-snoc : (ps : List Piece) (p : Piece) (l : ℕ) → lastArea l (ps ++ (p ∷ [])) ≡ p .area
-unfolding lastArea
-last-snoc [] p l = refl
-last-snoc (q ∷ ps) p l = last-snoc ps p (q .area)
-
 -- ---- load and sizeIn
 
 -- a piece in front needs its bytes and 12
@@ -89,11 +65,6 @@ load-own p ps = rw (eq-eqb (p .area) (p .area) refl) refl
 pub load-rest : (k : ℕ) (p : Piece) (ps : List Piece) → load k ps ≤ load k (p ∷ ps)
 unfolding load
 load-rest k p ps = omega arith
-
-pub load-snoc : (ps : List Piece) (p : Piece) (k : ℕ) → load k (ps ++ (p ∷ [])) ≡ load k ps + pick (eqb (p .area) k) (p .size + pduOverhead) 0
-unfolding load
-load-snoc [] p k = omega arith
-load-snoc (q ∷ ps) p k = omega (arith, load-snoc ps p k)
 
 in-load-one : (b : Bool) (z S L : ℕ) → S ≤ L - pduOverhead → pick b z 0 + S ≤ pick b (z + pduOverhead) 0 + L - pduOverhead
 in-load-one true z S L h = omega arith
@@ -151,7 +122,7 @@ all-after o n lo m (p ∷ ps) c r h =
 
 module _ (free : ℕ → ℕ) where
   -- what lies after area i is no more than the areas up to the row's last have room for
-  pub after-cap : (d i lo m : ℕ) (ps : List Piece) → Rising lo m ps → ((k : ℕ) → load k ps ≤ free k) → m ≤ i + d → sizeAfter i ps ≤ cap free i d
+  after-cap : (d i lo m : ℕ) (ps : List Piece) → Rising lo m ps → ((k : ℕ) → load k ps ≤ free k) → m ≤ i + d → sizeAfter i ps ≤ cap free i d
   unfolding cap
   after-cap zero i lo m ps r f h = omega (arith, after-none i lo m ps r (omega arith))
   after-cap (suc d) i lo m ps r f h =
@@ -164,9 +135,6 @@ module _ (free : ℕ → ℕ) where
       omega (arith, all-after 0 n 1 m ps (c .chain) (c .rising) (omega arith), after-cap (lastArea 0 ps) 0 1 (lastArea 0 ps) ps r (c .fits) (omega arith))
 
 -- ---- freeOf
-
-pub free-first : (f s : ℕ) → freeOf f s 1 ≡ f
-free-first f s = refl
 
 pub free-later : (f s k : ℕ) → 1 < k → freeOf f s k ≡ s
 free-later f s k h = rw (ne-eqb k 1 (λ e. omega arith)) refl

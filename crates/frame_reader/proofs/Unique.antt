@@ -3,7 +3,7 @@ use mathlib.Core.Path.{_≡_, refl, sym, ap, _∙_}
 use Prim.Native.Nat.{ℕ}
 use mathlib.Core.List.{List}
 use Rattle.refusal.specs.Said.{Said, gives, absent, refuses}
-use Rattle.refusal.proofs.Unique.{refusalOf, back}
+use Rattle.refusal.proofs.Unique.{unique, refusalOf, back}
 use Rattle.pdu.specs.declared.PduFields.{PduFields}
 use Rattle.pdu.specs.Read.{Reading}
 use Rattle.frame_reader.specs.Answers.{saidFrame, readSaid}
@@ -12,18 +12,18 @@ use Rattle.frame_reader.specs.declared.FrameAnswer.{FrameAnswer}
 use Rattle.frame_reader.specs.declared.FrameAnswer.the-variants.{Frame, No}
 use Rattle.frame_reader.proofs.Laws.{Says}
 
-unfoldable pub frameFrom : Said → FrameAnswer
+unfoldable frameFrom : Said → FrameAnswer
 frameFrom (gives l) = Frame
 frameFrom absent = Frame
 frameFrom (refuses n l) = No (refusalOf n l)
 
-pub frame-back : (r : FrameAnswer) → frameFrom (saidFrame r) ≡ r
+frame-back : (r : FrameAnswer) → frameFrom (saidFrame r) ≡ r
 unfolding frameFrom
 frame-back Frame = refl
 frame-back (No x) = ap No (back x)
 
-pub frame-unique : (a b : FrameAnswer) (s : Said) → saidFrame a ≡ s → saidFrame b ≡ s → a ≡ b
-frame-unique a b s p q = sym (frame-back a) ∙ ap frameFrom (p ∙ sym q) ∙ frame-back b
+frame-unique : (a b : FrameAnswer) (s : Said) → saidFrame a ≡ s → saidFrame b ≡ s → a ≡ b
+frame-unique = unique saidFrame frameFrom frame-back
 
 -- any two results that `read_frame` may give are equal
 pub read-frame-unique : (v : Reading) (a b : FrameRead) → Says v a → Says v b → a ≡ b

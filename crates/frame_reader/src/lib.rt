@@ -11,7 +11,7 @@ ghost use Prim.Native.Nat.{ℕ, _+_, _-_, _*_, _≤_, _<_};
 ghost use mathlib.Core.List.{[], map};
 ghost use lib.ListN.{length, take};
 ghost use Rattle.pdu.specs.Pdu.{pdusMost};
-ghost use Rattle.pdu.specs.Read.{bad, bodyAt, placesAt, frameOf, seenAt, readOf, pdusOf};
+ghost use Rattle.pdu.specs.Read.{bad, bodyAt, placesAt, seenAt, readOf, pdusOf};
 ghost use Rattle.frame_reader.specs.Answers.{saidFrame, readSaid, noPdu, padded};
 ghost use Rattle.frame_reader.specs.Walk.{walkedOf, placed, listing};
 
@@ -39,13 +39,6 @@ enum Walked {
 // The PDUs of a frame: each one's fields and its payload's place, in order.
 pub fn read_frame(s: &[u8]) -> FrameRead
     ensures { λ r. ⌜ (saidFrame (r .answer) ≡ readSaid (readOf (now (s .entry)))) × (r .count ≡ length (pdusOf (readOf (now (s .entry))))) × (r .pdus ≡ padded (pdusOf (readOf (now (s .entry))))) ⌝ }
-{
-    by_places(s)
-}
-
-// The PDUs of a frame, by the places where they start.
-fn by_places(s: &[u8]) -> FrameRead
-    ensures { λ r. ⌜ r ≡ listing (now (s .entry)) (frameOf (now (s .entry))) ⌝ }
 {
     if s.len() < 2 {
         return refused();

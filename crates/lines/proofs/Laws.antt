@@ -3,18 +3,18 @@ use Prim.Native.Nat.{ℕ, zero, suc, _+_, _-_, _*_, _/_, _%_, _^_, _≤_, _<_}
 use native.Mathlib.Nat.{add-zero, le-of-eq, pow-succ'}
 use native.Mathlib.Numerals.{add-one, unary-clauses}
 use native.Mathlib.Omega.{arith}
-use mathlib.Core.Path.{_≡_, refl, sym, ap, _∙_}
+use mathlib.Core.Path.{_≡_, refl, sym, _∙_}
 use mathlib.Core.Bool.{Bool, true, false, _&&_}
 use mathlib.Core.List.{List, [], _∷_, _++_}
-use lib.ListN.{length, getD, take, drop, length-append, length-take, length-drop, drop-of-length-le}
-use lib.Seq.{drop-cons, take-nil, take-append-le, take-append-add}
-use lib.Dec.{eqb, leb, ltb}
-use borrow.Author.Tests.{lt-ltb, le-ltb, le-leb, lt-leb, eq-eqb, ne-eqb, leb-true, leb-false, ltb-true, ltb-false}
+use lib.ListN.{length, getD, take, drop, length-append, length-drop, drop-of-length-le}
+use lib.Seq.{drop-cons}
+use lib.Dec.{eqb, leb}
+use borrow.Author.Tests.{lt-ltb, le-ltb, le-leb, lt-leb, eq-eqb, ne-eqb, leb-true, leb-false}
 use Rattle.io.specs.Digits.{glyph, digits, Fewest}
 use Rattle.refusal.specs.Said.{gives, absent, pick}
 use Rattle.refusal.proofs.Tests.{both}
-use Rattle.wire.specs.Bytes.{byteAt, overlay, laid}
-use Rattle.wire.proofs.Laws.{length-overlay, overlay-next, overlay-none, laid-whole, laid-past}
+use Rattle.wire.specs.Bytes.{byteAt, laid}
+use Rattle.wire.proofs.Laws.{laid-past, length-laid, laid-behind, laid-cut}
 use Rattle.lines.specs.Words.{space, wordLength, wordEnd, wordAt}
 use Rattle.lines.specs.Numbers.{numberMost, digitOf, allDigits, valueFrom, numberFrom, decimalIn, decimalOf}
 use Rattle.lines.specs.Pairs.{dash, nibbleOf, allHex, isBytes, bytesOf, hexFits, hexSaid, hexRoom, pairOf, pairsOf, hexText}
@@ -168,20 +168,6 @@ hex-not s room e = rw e (refl, refl)
 
 -- ---- texts laid one behind another
 
-pub length-laid : (xs : List ℕ) (k : ℕ) (ys : List ℕ) → length (laid xs k ys) ≡ length xs
-unfolding laid
-length-laid xs k ys = step (ltb k (length xs)) refl
-  where
-    step : (t : Bool) → ltb k (length xs) ≡ t → length (overlay xs k (take (length xs - k) ys)) ≡ length xs
-    step true e =
-        let h : k < length xs = ltb-true _ _ e in
-        length-overlay xs k (take (length xs - k) ys) (omega (arith, length-take (length xs - k) ys))
-    step false e = ap length (laid-past xs k ys (ltb-false _ _ e))
-
-pub laid-none : (xs : List ℕ) (k : ℕ) → laid xs k [] ≡ xs
-unfolding laid
-laid-none xs k = rw (take-nil (length xs - k)) (overlay-none xs k)
-
 pub after-none : (len k : ℕ) → after len k 0 ≡ k
 unfolding after
 after-none len k = omega arith
@@ -190,11 +176,11 @@ pub after-past : (len k n : ℕ) → len ≤ k → after len k n ≡ k
 unfolding after
 after-past len k n h = omega arith
 
-pub after-whole : (len k n : ℕ) → k + n ≤ len → after len k n ≡ k + n
+after-whole : (len k n : ℕ) → k + n ≤ len → after len k n ≡ k + n
 unfolding after
 after-whole len k n h = omega arith
 
-pub after-cut : (len k n : ℕ) → k ≤ len → len ≤ k + n → after len k n ≡ len
+after-cut : (len k n : ℕ) → k ≤ len → len ≤ k + n → after len k n ≡ len
 unfolding after
 after-cut len k n h c = omega arith
 
@@ -202,25 +188,6 @@ after-cut len k n h c = omega arith
 pub after-next : (len k n m : ℕ) → after len (after len k n) m ≡ after len k (n + m)
 unfolding after
 after-next len k n m = omega arith
-
-next-whole : (xs : List ℕ) (k : ℕ) (ys zs : List ℕ) → k + length ys ≤ length xs
-    → laid (laid xs k ys) (k + length ys) zs ≡ laid xs k (ys ++ zs)
-unfolding laid
-next-whole xs k ys zs h =
-    let d : length xs - k ≡ length ys + (length xs - (k + length ys)) = omega arith in
-    rw (
-      laid-whole xs k ys h,
-      length-overlay xs k ys h,
-      overlay-next xs k ys (take (length xs - (k + length ys)) zs) h,
-      d,
-      take-append-add ys zs (length xs - (k + length ys)),
-    )
-
-next-cut : (xs : List ℕ) (k : ℕ) (ys zs : List ℕ) → length xs ≤ k + length ys → laid xs k (ys ++ zs) ≡ laid xs k ys
-unfolding laid
-next-cut xs k ys zs h =
-    let d : length xs - k ≤ length ys = omega arith in
-    rw (take-append-le (length xs - k) ys zs d)
 
 -- what is laid at the next place is laid behind, also where the end cuts it off
 pub laid-next : (xs : List ℕ) (k : ℕ) (ys zs : List ℕ) → laid (laid xs k ys) (after (length xs) k (length ys)) zs ≡ laid xs k (ys ++ zs)
@@ -230,14 +197,14 @@ laid-next xs k ys zs = step (leb (k + length ys) (length xs)) (leb k (length xs)
         → laid (laid xs k ys) (after (length xs) k (length ys)) zs ≡ laid xs k (ys ++ zs)
     step true u e f =
         let h : k + length ys ≤ length xs = leb-true _ _ e in
-        rw (after-whole (length xs) k (length ys) h) (next-whole xs k ys zs h)
+        rw (after-whole (length xs) k (length ys) h) (laid-behind xs k ys zs h)
     step false true e f =
         let h : length xs < k + length ys = leb-false _ _ e in
         let g : k ≤ length xs = leb-true _ _ f in
         rw (
           after-cut (length xs) k (length ys) g (omega arith),
           laid-past (laid xs k ys) (length xs) zs (le-of-eq (length-laid xs k ys)),
-          next-cut xs k ys zs (omega arith),
+          laid-cut xs k ys zs (omega arith),
         )
     step false false e f =
         let h : length xs < k = leb-false _ _ f in

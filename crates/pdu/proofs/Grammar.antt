@@ -218,7 +218,7 @@ module _ (s : List ℕ) (bytes : Bytes s) where
   whole-step false c R l h q rest e = let z : _≡_ {A = ℕ} 0 1 = cc in absurd (omega arith)
 
   -- bytes that are taken for a frame are a well-formed one, whose PDUs start at the places found
-  pub taken-well : (l : List ℕ) → frameOf s ≡ good l → (ps : List Pdu) × WellFormed s ps × (l ≡ starts 2 ps)
+  taken-well : (l : List ℕ) → frameOf s ≡ good l → (ps : List Pdu) × WellFormed s ps × (l ≡ starts 2 ps)
   unfolding frameOf
   taken-well l e =
       whole-step (headed s) (eqb long 0) (placesAt (length s) s 2 (long + 2)) l refl refl (λ h q. parsed s bytes (length s) 2 (long + 2) l h q) e

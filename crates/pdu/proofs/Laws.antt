@@ -3,21 +3,14 @@ use mathlib.Core.Path.{_≡_, refl, _∙_}
 use mathlib.Core.Bool.{Bool, true, false}
 use Prim.Native.Nat.{ℕ, zero, suc, _+_, _-_, _*_, _/_, _≤_, _<_}
 use native.Mathlib.Omega.{arith}
-use mathlib.Core.List.{List, [], _∷_, _++_, map}
+use mathlib.Core.List.{List, [], _∷_, map}
 use lib.ListN.{length}
 use lib.Dec.{ltb, eqb}
-use lib.Seq.{getD-append-add}
 use borrow.Author.Tests.{lt-ltb, le-ltb, le-leb, lt-leb, eq-eqb, ne-eqb, ltb-true, ltb-false, eqb-true, eqb-false}
 use Rattle.refusal.specs.Said.{pick}
-use Rattle.wire.specs.Bytes.{byteAt, le16}
+use Rattle.wire.specs.Bytes.{le16}
 use Rattle.pdu.specs.declared.PduFields.{PduFields}
 use Rattle.pdu.specs.Read.{lengthOf, pduEnd, rightly, Places, good, bad, before, bodyAt, placesAt, headed, frameOf, seenAt, read, readOf}
-
--- ---- bytes behind others
-
-pub byte-behind : (pre t : List ℕ) (k : ℕ) → byteAt (pre ++ t) (length pre + k) ≡ byteAt t k
-unfolding byteAt
-byte-behind pre t k = getD-append-add pre t k 255
 
 -- ---- a PDU that ends rightly
 

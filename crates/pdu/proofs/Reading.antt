@@ -10,25 +10,26 @@ use lib.Dec.{leb, eqb}
 use lib.Seq.{drop-append-add, take-at, length-take-le}
 use borrow.Author.Tests.{le-leb, lt-leb}
 use Rattle.wire.specs.Bytes.{byteAt, le16, le32, bytes16}
+use Rattle.wire.proofs.Laws.{byte-behind, bytes32-back}
 use Rattle.pdu.specs.declared.PduFields.{PduFields}
 use Rattle.pdu.specs.Pdu.{Pdu, Fits, flagsOf, head, pduBytes, follows, layout, AllFit, frameHeader}
-use Rattle.pdu.specs.Read.{lengthOf, pduEnd, rightly, good, before, placesAt, frameOf, seenAt, payloadOf, read, readOf, shown, shownAll, starts, withMore, Extends, one-more}
+use Rattle.pdu.specs.Read.{lengthOf, pduEnd, rightly, good, before, placesAt, frameOf, seenAt, payloadOf, read, readOf, shown, shownAll, starts, withMore}
 use Rattle.pdu.specs.Grammar.{pduFrom, WellFormed}
-use Rattle.pdu.proofs.Laws.{byte-behind, rightly-last, rightly-more, body-last, body-more, places-step, frame-none, frame-some, read-as}
+use Rattle.pdu.proofs.Laws.{rightly-last, rightly-more, body-last, body-more, places-step, frame-none, frame-some, read-as}
 use Rattle.pdu.proofs.Rows.{pdu-length, layout-none, layout-one, layout-length, follows-most}
 
 -- ---- flags
 
 module _ (n e m : ℕ) (nb : n < 2048) (eb : e < 16) where
-  pub flags-length : lengthOf (flagsOf n e m) ≡ n
+  flags-length : lengthOf (flagsOf n e m) ≡ n
   flags-length = omega arith
 
-  pub flags-extra : flagsOf n e m / 2048 % 16 ≡ e
+  flags-extra : flagsOf n e m / 2048 % 16 ≡ e
   flags-extra =
       let q : flagsOf n e m / 2048 ≡ e + 16 * m = omega arith in
       rw q (omega arith)
 
-  pub flags-circulated : flagsOf n e m / 16384 % 2 ≡ e / 8
+  flags-circulated : flagsOf n e m / 16384 % 2 ≡ e / 8
   flags-circulated = omega arith
 
 flags-more : (n e m : ℕ) → n < 2048 → e < 16 → m ≤ 1 → leb 32768 (flagsOf n e m) ≡ eqb m 1
@@ -37,7 +38,7 @@ flags-more n e (suc zero) nb eb mb = le-leb 32768 (flagsOf n e 1) (omega arith)
 flags-more n e (suc (suc m)) nb eb mb = absurd (omega arith)
 
 -- more-follows stands where it should
-pub rightly-laid : (ps : List Pdu) (p : Pdu) (i end : ℕ) → Fits p → end ≡ i + (12 + length (p .payload) + length (layout ps))
+rightly-laid : (ps : List Pdu) (p : Pdu) (i end : ℕ) → Fits p → end ≡ i + (12 + length (p .payload) + length (layout ps))
     → rightly i end (flagsOf (length (p .payload)) (p .extra) (follows ps)) ≡ true
 rightly-laid [] p i end fit e =
     let l = length (p .payload) in
@@ -52,28 +53,20 @@ rightly-laid (q ∷ ps) p i end fit e =
     let z = flags-length l (p .extra) 1 y x in
     rightly-more i end (flagsOf l (p .extra) 1) (omega arith) (omega (arith, layout-length q ps))
 
--- four bytes joined again
-join32 : (a : ℕ) → a < 4294967296 → a % 256 + 256 * (a / 256 % 256) + 65536 * (a / 65536 % 256 + 256 * (a / 16777216 % 256)) ≡ a
-join32 a h =
-    let top : a / 16777216 % 256 ≡ a / 16777216 = omega arith in
-    let low : a % 256 + 256 * (a / 256 % 256) ≡ a % 65536 = omega arith in
-    let high : a / 65536 % 256 + 256 * (a / 16777216) ≡ a / 65536 = omega arith in
-    rw top (omega (arith, low, high))
-
 -- ---- the bytes of a PDU, where they stand in a frame
 
 module _ (pre t : List ℕ) (p : Pdu) (m : ℕ) (fit : Fits p) (mb : m ≤ 1) (s : List ℕ) (e : s ≡ pre ++ (pduBytes p m ++ t)) (i : ℕ) (at : i ≡ length pre) where
   here : (j k : ℕ) → j ≡ i + k → byteAt s j ≡ byteAt (pduBytes p m ++ t) k
   here j k h = rw (h, e, at) (byte-behind pre (pduBytes p m ++ t) k)
 
-  pub flags-of : le16 s (i + 6) ≡ flagsOf (length (p .payload)) (p .extra) m
+  flags-of : le16 s (i + 6) ≡ flagsOf (length (p .payload)) (p .extra) m
   unfolding byteAt
   flags-of = rw (here (i + 6) 6 refl, here (i + 6 + 1) 7 (omega arith)) (omega (arith, fit .payload-fits, fit .extra-fits))
 
   address-of : le32 s (i + 2) ≡ p .address
   unfolding byteAt
   address-of =
-      rw (here (i + 2) 2 refl, here (i + 2 + 1) 3 (omega arith), here (i + 2 + 2) 4 (omega arith), here (i + 2 + 2 + 1) 5 (omega arith)) (join32 (p .address) (fit .address-fits))
+      rw (here (i + 2) 2 refl, here (i + 2 + 1) 3 (omega arith), here (i + 2 + 2) 4 (omega arith), here (i + 2 + 2 + 1) 5 (omega arith)) (bytes32-back (p .address) (fit .address-fits))
 
   irq-of : le16 s (i + 8) ≡ p .irq
   unfolding byteAt
@@ -93,12 +86,12 @@ module _ (pre t : List ℕ) (p : Pdu) (m : ℕ) (fit : Fits p) (mb : m ≤ 1) (s
       let b : byteAt s (i + (10 + n) + 1) ≡ p .counter / 256 % 256 = here (i + (10 + n) + 1) (10 + (n + 1)) (omega arith) ∙ behind 1 in
       omega (arith, fit .counter-fits)
 
-  pub payload-of : payloadOf s (shown i p m) ≡ p .payload
+  payload-of : payloadOf s (shown i p m) ≡ p .payload
   unfolding payloadOf
   payload-of =
       rw (e, at, drop-append-add pre (pduBytes p m ++ t) 10, append-assoc (p .payload) (bytes16 (p .counter)) t) (take-at (p .payload) (bytes16 (p .counter) ++ t) (length (p .payload)) refl)
 
-  pub stands-at : pduFrom s i ≡ p
+  stands-at : pduFrom s i ≡ p
   unfolding byteAt payloadOf
   stands-at =
       let l = length (p .payload) in
@@ -106,7 +99,7 @@ module _ (pre t : List ℕ) (p : Pdu) (m : ℕ) (fit : Fits p) (mb : m ≤ 1) (s
       let x = flags-extra l (p .extra) m (fit .payload-fits) (fit .extra-fits) in
       rw (flags-of, n, x, here (i + 1) 1 refl, address-of, irq-of, counter-of, payload-of, here i 0 (omega arith)) refl
 
-  pub seen-at : seenAt s i ≡ shown i p m
+  seen-at : seenAt s i ≡ shown i p m
   unfolding seenAt byteAt
   seen-at =
       let l = length (p .payload) in
@@ -118,7 +111,7 @@ module _ (pre t : List ℕ) (p : Pdu) (m : ℕ) (fit : Fits p) (mb : m ≤ 1) (s
 -- ---- a row of PDUs from i on
 
 -- their places
-pub places : (ps : List Pdu) (p : Pdu) (pre t s : List ℕ) (f i end : ℕ) → AllFit (p ∷ ps) → s ≡ pre ++ (layout (p ∷ ps) ++ t) → i ≡ length pre
+places : (ps : List Pdu) (p : Pdu) (pre t s : List ℕ) (f i end : ℕ) → AllFit (p ∷ ps) → s ≡ pre ++ (layout (p ∷ ps) ++ t) → i ≡ length pre
     → end ≡ i + length (layout (p ∷ ps)) → end - i ≤ f → placesAt f s i end ≡ good (starts i (p ∷ ps))
 unfolding AllFit layout starts
 places [] p pre t s f i end fit e at to fuel =
@@ -147,7 +140,7 @@ places (q ∷ ps) p pre t s f i end fit e at to fuel =
     rw (d .2, fl) (body-more _ i end (flagsOf l (p .extra) 1) (rightly-laid (q ∷ ps) p i end (fit .0) (omega arith)) (λ z. omega arith) ∙ ap (before i) (ap (λ (z : ℕ). placesAt (d .0) s z end) k ∙ rest))
 
 -- what is seen at them, their payloads, and the PDUs themselves
-pub seen-all : (ps : List Pdu) (pre t s : List ℕ) (i : ℕ) → AllFit ps → s ≡ pre ++ (layout ps ++ t) → i ≡ length pre
+seen-all : (ps : List Pdu) (pre t s : List ℕ) (i : ℕ) → AllFit ps → s ≡ pre ++ (layout ps ++ t) → i ≡ length pre
     → (map (seenAt s) (starts i ps) ≡ shownAll i ps) × (map (payloadOf s) (shownAll i ps) ≡ map (λ (p : Pdu). p .payload) ps)
     × (map (pduFrom s) (starts i ps) ≡ ps)
 unfolding AllFit layout starts shownAll
@@ -177,7 +170,7 @@ module _ (s : List ℕ) (ps : List Pdu) (w : WellFormed s ps) where
       ap length split ∙ length-append (take 2 s) (layout ps ++ w .after)
       ∙ (let t = two in let a = length-append (layout ps) (w .after) in omega arith)
 
-pub well-places : (s : List ℕ) (ps : List Pdu) → WellFormed s ps → frameOf s ≡ good (starts 2 ps)
+well-places : (s : List ℕ) (ps : List Pdu) → WellFormed s ps → frameOf s ≡ good (starts 2 ps)
 unfolding starts
 well-places s [] w = frame-none s (w .header-there) (w .type-one) (w .length-is ∙ layout-none)
 well-places s (p ∷ ps) w =
@@ -224,17 +217,29 @@ module _ (ps : List Pdu) (t : List ℕ) (fit : AllFit ps) (h : length (layout ps
   pub frame-payloads : map (payloadOf (frameHeader (length (layout ps)) ++ (layout ps ++ t))) (shownAll 2 ps) ≡ map (λ (p : Pdu). p .payload) ps
   frame-payloads = well-payloads _ ps frame-well
 
--- ---- one PDU more behind others
+-- ---- PDUs behind others
 
-pub shown-snoc : (ps : List Pdu) (q : Pdu) (i : ℕ) → shownAll i (ps ++ (q ∷ [])) ≡ withMore (shownAll i ps) ++ (shown (i + length (layout ps)) q 0 ∷ [])
+pub shown-length : (i : ℕ) (ps : List Pdu) → length (shownAll i ps) ≡ length ps
+unfolding shownAll
+shown-length i [] = refl
+shown-length i (p ∷ ps) = ap suc (shown-length (i + (12 + length (p .payload))) ps)
+
+-- the others are seen as before, with more-follows set in the last of them
+pub shown-append : (ps : List Pdu) (q : Pdu) (qs : List Pdu) (i : ℕ) → shownAll i (ps ++ (q ∷ qs)) ≡ withMore (shownAll i ps) ++ shownAll (i + length (layout ps)) (q ∷ qs)
 unfolding shownAll withMore
-shown-snoc [] q i = rw (layout-none, add-zero i) refl
-shown-snoc (p ∷ []) q i =
+shown-append [] q qs i = rw (layout-none, add-zero i) refl
+shown-append (p ∷ []) q qs i =
     let k : i + length (layout (p ∷ [])) ≡ i + (12 + length (p .payload)) = omega (arith, layout-length p [], layout-none) in
     rw k refl
-shown-snoc (p ∷ r ∷ ps) q i =
+shown-append (p ∷ r ∷ ps) q qs i =
     let k : i + length (layout (p ∷ r ∷ ps)) ≡ i + (12 + length (p .payload)) + length (layout (r ∷ ps)) = omega (arith, layout-length p (r ∷ ps)) in
-    rw k (ap (λ (z : List PduFields). shown i p 1 ∷ z) (shown-snoc (r ∷ ps) q (i + (12 + length (p .payload)))))
+    rw k (ap (λ (z : List PduFields). shown i p 1 ∷ z) (shown-append (r ∷ ps) q qs (i + (12 + length (p .payload)))))
 
-pub extends-snoc : (ps : List Pdu) (q : Pdu) (i : ℕ) → Extends (shownAll i ps) (shownAll i (ps ++ (q ∷ [])))
-extends-snoc ps q i = rw (shown-snoc ps q i) (one-more (shown (i + length (layout ps)) q 0))
+more-length : (vs : List PduFields) → length (withMore vs) ≡ length vs
+unfolding withMore
+more-length [] = refl
+more-length (v ∷ []) = refl
+more-length (v ∷ w ∷ vs) = ap suc (more-length (w ∷ vs))
+
+pub shown-front : (i : ℕ) (ps : List Pdu) (q : Pdu) (qs : List Pdu) → take (length ps) (shownAll i (ps ++ (q ∷ qs))) ≡ withMore (shownAll i ps)
+shown-front i ps q qs = rw (shown-append ps q qs i) (take-at (withMore (shownAll i ps)) _ (length ps) (more-length (shownAll i ps) ∙ shown-length i ps))

@@ -1,10 +1,10 @@
--- Rows of PDUs: their lengths, and one more behind the others. Each law is one induction over the row.
+-- Rows of PDUs: their lengths, and others behind them. Each law is one induction over the row.
 use mathlib.Core.Path.{_≡_, refl, ap, sym, _∙_}
 use Prim.Native.Nat.{ℕ, _+_, _*_, _≤_}
 use native.Mathlib.Omega.{arith}
 use mathlib.Core.List.{List, [], _∷_, _++_, append-assoc, append-nil}
 use lib.ListN.{length, length-append}
-use Rattle.pdu.specs.Pdu.{Pdu, Fits, pduBytes, follows, layout, chained, lastAt, AllFit}
+use Rattle.pdu.specs.Pdu.{Pdu, pduBytes, follows, layout, chained, lastAt, AllFit}
 
 -- ---- lengths
 
@@ -29,6 +29,10 @@ chained-length [] = sym layout-none
 chained-length (p ∷ ps) =
     omega (arith, length-append (pduBytes p 1) (chained ps), pdu-length p 1, layout-length p ps, chained-length ps)
 
+pub append-length : (ps qs : List Pdu) → length (layout (ps ++ qs)) ≡ length (layout ps) + length (layout qs)
+append-length [] qs = omega (arith, layout-none)
+append-length (p ∷ ps) qs = omega (arith, layout-length p (ps ++ qs), layout-length p ps, append-length ps qs)
+
 -- each takes 12 bytes at least, and so does the last
 pub counted : (ps : List Pdu) → 12 * length ps ≤ length (layout ps)
 counted [] = omega arith
@@ -43,9 +47,14 @@ pub follows-most : (ps : List Pdu) → follows ps ≤ 1
 follows-most [] = omega arith
 follows-most (p ∷ ps) = omega arith
 
--- ---- one more behind the others
+-- ---- others behind them
 
--- more-follows stands in all before it
+pub fit-append : (ps qs : List Pdu) → AllFit ps → AllFit qs → AllFit (ps ++ qs)
+unfolding AllFit
+fit-append [] qs f g = g
+fit-append (p ∷ ps) qs f g = (f .0, fit-append ps qs (f .1) g)
+
+-- one more: more-follows stands in all before it
 pub layout-snoc : (ps : List Pdu) (q : Pdu) → layout (ps ++ (q ∷ [])) ≡ chained ps ++ pduBytes q 0
 unfolding layout chained
 layout-snoc [] q = append-nil (pduBytes q 0)
@@ -58,8 +67,3 @@ unfolding lastAt
 last-snoc [] q = sym layout-none
 last-snoc (p ∷ []) q = omega (arith, layout-none, layout-length p [])
 last-snoc (p ∷ r ∷ ps) q = omega (arith, last-snoc (r ∷ ps) q, layout-length p (r ∷ ps))
-
-pub fit-snoc : (ps : List Pdu) (q : Pdu) → AllFit ps → Fits q → AllFit (ps ++ (q ∷ []))
-unfolding AllFit
-fit-snoc [] q f g = (g, tt)
-fit-snoc (p ∷ ps) q f g = (f .0, fit-snoc ps q (f .1) g)

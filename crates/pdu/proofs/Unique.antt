@@ -3,24 +3,24 @@ use mathlib.Core.Path.{_≡_, refl, sym, ap, _∙_}
 use mathlib.Core.List.{List}
 use Prim.Native.Nat.{ℕ}
 use Rattle.refusal.specs.Said.{Said, gives, absent, refuses}
-use Rattle.refusal.proofs.Unique.{refusalOf, back}
+use Rattle.refusal.proofs.Unique.{unique, refusalOf, back}
 use Rattle.pdu.specs.Answers.{saidHeader, headerSaid, headerLeft}
 use Rattle.pdu.specs.declared.FrameHead.{FrameHead}
 use Rattle.pdu.specs.declared.HeaderAnswer.{HeaderAnswer}
 use Rattle.pdu.specs.declared.HeaderAnswer.the-variants.{Header, No}
 
-unfoldable pub headerFrom : Said → HeaderAnswer
+unfoldable headerFrom : Said → HeaderAnswer
 headerFrom (gives l) = Header
 headerFrom absent = Header
 headerFrom (refuses n l) = No (refusalOf n l)
 
-pub header-back : (r : HeaderAnswer) → headerFrom (saidHeader r) ≡ r
+header-back : (r : HeaderAnswer) → headerFrom (saidHeader r) ≡ r
 unfolding headerFrom
 header-back Header = refl
 header-back (No x) = ap No (back x)
 
-pub header-unique : (a b : HeaderAnswer) (s : Said) → saidHeader a ≡ s → saidHeader b ≡ s → a ≡ b
-header-unique a b s p q = sym (header-back a) ∙ ap headerFrom (p ∙ sym q) ∙ header-back b
+header-unique : (a b : HeaderAnswer) (s : Said) → saidHeader a ≡ s → saidHeader b ≡ s → a ≡ b
+header-unique = unique saidHeader headerFrom header-back
 
 -- any two results that `frame_header` may give are equal
 pub frame-header-unique : (used : ℕ) (a b : FrameHead) → (saidHeader (a .answer) ≡ headerSaid used) × (a .bytes ≡ headerLeft used)

@@ -1,6 +1,6 @@
 -- What is read of a frame's bytes. Definitions only.
 use Prim.Native.Nat.{ℕ, zero, suc, _+_, _/_, _%_}
-use mathlib.Core.List.{List, [], _∷_, _++_, map}
+use mathlib.Core.List.{List, [], _∷_, map}
 use mathlib.Core.Bool.{Bool, true, _&&_}
 use lib.ListN.{length, take, drop}
 use lib.Dec.{ltb, leb, eqb}
@@ -132,8 +132,3 @@ withMore (v ∷ []) =
     }
     ∷ []
 withMore (v ∷ w ∷ vs) = v ∷ withMore (w ∷ vs)
-
--- the same PDUs, or these with more-follows set in the last and one more behind them
-pub data Extends (vs : List PduFields) : List PduFields → Type 0 where
-  same : Extends vs vs
-  one-more : (v : PduFields) → Extends vs (withMore vs ++ (v ∷ []))

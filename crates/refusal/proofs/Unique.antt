@@ -1,10 +1,11 @@
--- A refusal is known from its number and its values, by an inverse: so a promise on what is said allows one refusal.
+-- An answer is known from what it says, by an inverse, and so is a refusal: a promise on what is said allows one.
 use Prim.Native.Nat.{ℕ}
-use mathlib.Core.Path.{_≡_, refl}
+use native.Mathlib.Omega.{arith}
+use mathlib.Core.Path.{_≡_, refl, sym, ap, _∙_}
 use mathlib.Core.List.{List}
 use lib.ListN.{getD}
 use lib.Dec.{eqb}
-use Rattle.refusal.specs.Said.{numberOf, valuesOf, pick}
+use Rattle.refusal.specs.Said.{Said, gives, refuses, numberOf, valuesOf, pick}
 use Rattle.refusal.specs.declared.Refusal.{Refusal}
 use Rattle.refusal.specs.declared.Refusal.the-variants.{
   Address,
@@ -22,6 +23,16 @@ use Rattle.refusal.specs.declared.Refusal.the-variants.{
   NoRoom,
   BadArgument,
 }
+
+-- two answers that say the same are the same, where each is got back from what it says
+pub unique : {A B : Type 0} (say : A → B) (from : B → A) → ((r : A) → from (say r) ≡ r) → (a b : A) (s : B) → say a ≡ s → say b ≡ s → a ≡ b
+unique say from back a b s p q = sym (back a) ∙ ap from (p ∙ sym q) ∙ back b
+
+-- what refuses gives nothing
+pub gives-none : (n : ℕ) (l m : List ℕ) → _≡_ {A = Said} (refuses n l) (gives m) → ⊥
+gives-none n l m e = let z : _≡_ {A = ℕ} 0 1 = cc in omega arith
+
+-- ---- a refusal, from its number and its values
 
 unfoldable pub refusalOf : ℕ → List ℕ → Refusal
 refusalOf n l =

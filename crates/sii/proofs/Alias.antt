@@ -10,7 +10,7 @@ use lib.Dec.{leb}
 use borrow.Author.Tests.{leb-true}
 use Rattle.refusal.specs.Said.{gives, refuses, pick}
 use Rattle.wire.specs.Bytes.{byteAt, le16, bytes16}
-use Rattle.wire.proofs.Laws.{length-overlay}
+use Rattle.wire.proofs.Laws.{length-overlay, bytes16-back}
 use Rattle.crc.specs.Crc.{crcOf}
 use Rattle.eeprom.specs.Image.{within}
 use Rattle.category.specs.Numbers as numbers
@@ -18,7 +18,7 @@ use Rattle.sii.specs.Layout.{Field, fixed, start, vendorId, productCode,
 use Rattle.sii.specs.Fixed.{lent, aliasSaid, identityOf, identitySaid, mailboxOf, mailboxSaid, sizeSaid, checksumEnd, withAlias, withChecksum, aliased, setSaid, setImage}
 use Rattle.sii.specs.General.{generalOf, generalAdmits, generalIn, generalFound, generalSaid}
 use Rattle.sii.specs.Alias.{SameFrom, AliasKept}
-use Rattle.wire.proofs.Overlay.{overlay-before, overlay-past, overlay-inside, overlay-front, bytes16-back}
+use Rattle.wire.proofs.Overlay.{overlay-before, overlay-past, overlay-inside, overlay-front}
 use Rattle.category.proofs.Same.{categories, category-same, on-category-same}
 use Rattle.sii.proofs.Same.{same-weaker, field-same, within-same}
 

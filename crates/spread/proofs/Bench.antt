@@ -1,9 +1,9 @@
--- Document 01, 'Measured on the bench', the spreading's line, and a worked example: from the definitions by computation.
+-- Two cases of the bench that document 01 does not mark P (crate `bench` has those), and a worked example: from the definitions by computation.
 use mathlib.Core.Path.{_≡_, refl}
 use mathlib.Core.List.{[], _∷_, _++_}
 use Prim.Native.Nat.{ℕ}
 use lib.ListN.{replicate}
-use Rattle.refusal.specs.Said.{Said, gives, refuses}
+use Rattle.refusal.specs.Said.{Said, gives}
 use Rattle.cuts.specs.Measure.{cap}
 use Rattle.created_frame.specs.declared.Builder.{Builder}
 use Rattle.wire.specs.Bytes.{byteAt, overlay}
@@ -11,34 +11,22 @@ use Rattle.created_frame.specs.Frame.{sound, acceptable, more, marked, fresh, r
 use Rattle.spread.specs.Row.{zeroed, rowFrom, lawful, roomIn, Outcome, spreadOf}
 
 -- what is said of an image of n bytes over two areas of 100, the first in this state
-unfoldable pub benchSaid : Builder → ℕ → Said
+abbrev benchSaid : Builder → ℕ → Said
 benchSaid first n = spreadOf (replicate 200 0) 100 first 0 12 0 (replicate n 0) .said
 
 module _ where
-  pub bench-88 : benchSaid fresh 88 ≡ gives (1 ∷ [])
-  unfolding benchSaid spreadOf lawful sound roomIn cap rowFrom restBuilder restNext acceptable
-  bench-88 = refl
-
-  pub bench-89 : benchSaid fresh 89 ≡ gives (2 ∷ [])
-  unfolding benchSaid spreadOf lawful sound roomIn cap rowFrom restBuilder restNext acceptable
-  bench-89 = refl
-
   pub bench-176 : benchSaid fresh 176 ≡ gives (2 ∷ [])
-  unfolding benchSaid spreadOf lawful sound roomIn cap rowFrom restBuilder restNext acceptable
+  unfolding spreadOf lawful sound roomIn cap rowFrom restBuilder restNext acceptable
   bench-176 = refl
-
-  pub bench-177 : benchSaid fresh 177 ≡ refuses 13 []
-  unfolding benchSaid spreadOf lawful sound roomIn cap rowFrom restBuilder restNext acceptable
-  bench-177 = refl
 
   -- the first with 90 used: 1 byte ends in 2
   pub bench-90-used : benchSaid (record { used = 90; count = 1; last = 0 }) 1 ≡ gives (2 ∷ [])
-  unfolding benchSaid spreadOf lawful sound roomIn cap rowFrom restBuilder restNext acceptable
+  unfolding spreadOf lawful sound roomIn cap rowFrom restBuilder restNext acceptable
   bench-90-used = refl
 
 -- ---- a worked example: three areas of 14 bytes, the first opened, the others holding 0xFF; LRW from address 0xFFFFFFFD, index 255, image 01 02 03
 
-abbrev pub example : Outcome
+abbrev example : Outcome
 example = spreadOf (replicate 14 0 ++ replicate 28 255) 14 fresh 255 12 4294967293 (1 ∷ 2 ∷ 3 ∷ [])
 
 module _ where

@@ -11,6 +11,7 @@ use lib.ListN.{length, take, drop, set, replicate, length-drop, length-set, take
 use lib.Seq.{drop-drop, take-suc-set, drop-set-lt, append-snoc, length-take-le}
 use Rattle.wire.specs.Bytes.{overlay}
 use Rattle.wire.proofs.Laws.{length-overlay}
+use Rattle.wire.proofs.Overlay.{take-overlay, drop-overlay, middle-overlay, overlay-again}
 use Rattle.created_frame.specs.declared.Builder.{Builder}
 use Rattle.created_frame.specs.declared.RestPush.{RestPush}
 use Rattle.created_frame.specs.Answers.{saidRest}
@@ -24,7 +25,6 @@ use Rattle.spread.specs.declared.Spreading.{Spreading}
 use Rattle.spread.specs.Answers.{firstOf}
 use Rattle.spread.specs.Row.{zeroed, Run, stopped, rowFrom, roomIn, padded, Fillable}
 use Rattle.spread.proofs.Push.{zeroed-length, push-takes}
-use Rattle.spread.proofs.Parts.{take-overlay, drop-overlay, middle-overlay, overlay-again}
 use Rattle.spread.proofs.Laws.{padded-none}
 
 -- ---- what n areas have room for, the first of which has `used` used
@@ -33,7 +33,7 @@ unfoldable pub roomFrom : ℕ → ℕ → ℕ → ℕ
 roomFrom zero size used = 0
 roomFrom (suc n) size used = (size - used - 12) + n * (size - 12)
 
-pub room-from : (n size used : ℕ) → roomIn n size used ≡ roomFrom n size used
+room-from : (n size used : ℕ) → roomIn n size used ≡ roomFrom n size used
 unfolding roomIn roomFrom cap
 room-from zero size used = refl
 room-from (suc n) size used = row-cap (size - used) size n
@@ -195,7 +195,7 @@ module _ (count size command address : ℕ) (image : List ℕ) (whole : Run) whe
           let q : n ≡ t = n-is in
           omega (arith, bytes-length, room-step m size (b .used))
 
-      pub going-step : Going (zeroed size) fresh ys states₁ (k + 1) (at + size) (sent + n) (r .next)
+      going-step : Going (zeroed size) fresh ys states₁ (k + 1) (at + size) (sent + n) (r .next)
       going-step =
           let q : n ≡ t = n-is in
           let bl = bytes-length in
@@ -219,7 +219,7 @@ module _ (count size command address : ℕ) (image : List ℕ) (whole : Run) whe
           }
 
   -- what the inner function promises of a result and a row
-  abbrev pub Carried : Spreading → List ℕ → Type 0
+  abbrev Carried : Spreading → List ℕ → Type 0
   Carried r ys =
       (r .answer ≡ Last (length (whole .states))) × (((r .states ≡ padded (whole .states)) × (r .next ≡ whole .next)) × (ys ≡ whole .areas))
 
@@ -238,7 +238,7 @@ module _ (count size command address : ℕ) (image : List ℕ) (whole : Run) whe
       sym (take-append-drop k states) ∙ rw (t, g .states-free, l) refl in
       (rw l refl, ((p, n), a))
 
-  pub going-start : (row : List ℕ) (first : Builder) (index : ℕ) → Fillable (length row) size count first command address (length image)
+  going-start : (row : List ℕ) (first : Builder) (index : ℕ) → Fillable (length row) size count first command address (length image)
       → whole ≡ rowFrom size command address count (take size row) first index 0 row image → Going (take size row) first row (replicate 32 fresh) 0 0 0 index
   going-start row first index f e =
       record {

@@ -3,12 +3,13 @@ use mathlib.Core.Path.{_≡_, refl, ap, sym, _∙_}
 use Prim.Native.Nat.{ℕ, zero, suc, _+_, _*_, _-_, _≤_, _<_, min}
 use native.Mathlib.Omega.{arith}
 use native.Mathlib.Nat.{suc-mul, zero-mul, sub-zero, le-refl}
+use mathlib.Core.Logic.{_≢_}
 use mathlib.Core.Bool.{Bool, true, false}
 use mathlib.Core.List.{List, [], _∷_, _++_, append-assoc}
 use lib.ListN.{length, take, drop, length-drop}
 use lib.Dec.{eqb}
 use lib.Seq.{drop-drop}
-use borrow.Author.Tests.{eqb-true, eq-eqb, ne-eqb}
+use borrow.Author.Tests.{eqb-true, eqb-false, eq-eqb, ne-eqb}
 use Rattle.refusal.specs.Said.{pick}
 use Rattle.pdu.specs.Pdu.{Pdu}
 use Rattle.cuts.specs.Cut.{Piece, lastArea}
@@ -19,7 +20,7 @@ use Rattle.cuts.proofs.Greedy.{greedy-rising, greedy-nothing}
 use Rattle.created_frame.specs.declared.Builder.{Builder}
 use Rattle.created_frame.specs.Frame.{sound, fresh, after, taken, restBuilder, restNext, afterRest}
 use Rattle.created_frame.specs.Built.{made, restAdds, Built}
-use Rattle.created_frame.proofs.Built.{built-open, built-rest, built-sound, some}
+use Rattle.created_frame.proofs.Built.{built-open, built-rest, built-sound}
 use Rattle.spread.specs.Row.{zeroed, Run, rowFrom}
 use Rattle.spread.specs.Laid.{laidIn, laid, statesOf, inArea, newsOf, indexPast}
 use Rattle.created_frame.proofs.States.{rest-next}
@@ -32,7 +33,7 @@ use Rattle.spread.proofs.Plan.{none-in, news-later}
 -- ---- the plan's last area
 
 module _ (free : ℕ → ℕ) where
-  pub greedy-step : (d i o left : ℕ) → let t = min left (room free (suc i)) in greedyFrom free (suc d) i o left ≡ piece (suc i) o t (greedyFrom free d (suc i) (o + t) (left - t))
+  greedy-step : (d i o left : ℕ) → let t = min left (room free (suc i)) in greedyFrom free (suc d) i o left ≡ piece (suc i) o t (greedyFrom free d (suc i) (o + t) (left - t))
   unfolding greedyFrom
   greedy-step d i o left = refl
 
@@ -55,7 +56,7 @@ module _ (free : ℕ → ℕ) where
   last-piece l a o (suc t) ps h = refl
 
   -- the first of the areas that are left is among those up to the last
-  pub last-next : (d i o left : ℕ) → 0 < left → left ≤ cap free i (suc d)
+  last-next : (d i o left : ℕ) → 0 < left → left ≤ cap free i (suc d)
       → let t = min left (room free (suc i)) in
       let rest = greedyFrom free d (suc i) (o + t) (left - t) in
       lastArea i (greedyFrom free (suc d) i o left) - i ≡ suc (lastArea (suc i) rest - suc i)
@@ -192,5 +193,6 @@ module _ (size command address : ℕ) (image : List ℕ) where
             let z : length (drop o image) ≡ 0 = eqb-true _ _ e in
             rw (row-stop size command address (suc n) area b index o row (drop o image) z, z, greedy-nothing free (suc n) i o) (nothing-left i index row olds)
         go false e ih =
-            let pos : 0 < length (drop o image) = some _ e in
+            let some : length (drop o image) ≢ 0 = eqb-false _ 0 e in
+            let pos : 0 < length (drop o image) = omega arith in
             rw (row-more size command address n area b index o row (drop o image) pos) (laid-step n i area b index o row olds h al fr pos enough _ ih)

@@ -9,7 +9,8 @@ use borrow.Author.Tests.{leb-false}
 use lib.Dec.{eqb}
 use lib.ListN.{length, take, drop, length-append, length-drop}
 use lib.Seq.{drop-at, drop-drop, length-take-le, take-at}
-use Rattle.refusal.specs.Said.{gives, refuses, pick}
+use Rattle.refusal.specs.Said.{gives, pick}
+use Rattle.refusal.proofs.Unique.{gives-none}
 use Rattle.created_frame.specs.declared.Builder.{Builder}
 use Rattle.created_frame.specs.Frame.{fresh, taken, restBuilder, restNext, afterRest}
 use Rattle.created_frame.proofs.States.{rest-absent-kept}
@@ -93,12 +94,9 @@ module _ (row : List ℕ) (size : ℕ) (first : Builder) (index command address 
   full-first pos full k =
       ways row size first index command address image
       (λ (o : Outcome). o .said ≡ gives (k ∷ []) → (take size (o .run .areas) ≡ take size row) × ((bs : List Builder) × (o .run .states ≡ first ∷ bs)))
-      (λ p e. absurd (never _ _ _ e)) (λ p q e. absurd (never _ _ _ e)) (λ p q r e. absurd (never _ _ _ e))
+      (λ p e. absurd (gives-none _ _ _ e)) (λ p q e. absurd (gives-none _ _ _ e)) (λ p q r e. absurd (gives-none _ _ _ e))
       (λ p q r e. (let f = law (length row) size first command (length image) p in first-left (length row / size) (f .areas-some) (f .row-whole) f))
     where
-      never : (number : ℕ) (l m : List ℕ) → refuses number l ≡ gives m → ⊥
-      never number l m e = let z : _≡_ {A = ℕ} 0 1 = cc in omega arith
-
       first-left : (n : ℕ) → 1 ≤ n → n * size ≡ length row → Lawful (length row) size first command (length image)
           → let r = rowFrom size command address n (take size row) first index 0 row image in
           (take size (r .areas) ≡ take size row) × ((bs : List Builder) × (r .states ≡ first ∷ bs))

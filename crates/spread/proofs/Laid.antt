@@ -1,30 +1,28 @@
--- Areas laid with PDUs are read back as these: one frame by the reader's own theorem, the row by going along it. An area of our builder is one.
+-- Areas laid with PDUs are read back as these: each is as our builder leaves one, and the row goes by going along it.
 use mathlib.Core.Path.{_≡_, refl, ap, sym, _∙_}
-use Prim.Native.Nat.{ℕ, suc, _+_, _*_, _-_, _≤_}
+use Prim.Native.Nat.{ℕ, zero, suc, _+_, _*_, _-_, _≤_}
 use native.Mathlib.Omega.{arith}
 use native.Mathlib.Nat.{suc-mul, zero-mul}
-use mathlib.Core.List.{List, [], _∷_, _++_, append-assoc, append-nil, map}
+use mathlib.Core.List.{List, [], _∷_, _++_, append-assoc, append-nil, map, map-append}
 use lib.ListN.{length, take, drop, replicate, length-append, length-replicate, length-map}
-use lib.Seq.{take-at, drop-at, take-all}
-use Rattle.pdu.specs.declared.PduFields.{PduFields}
+use lib.Seq.{take-at, drop-at, take-all, take-append-le}
 use Rattle.pdu.specs.Pdu.{Pdu, follows, layout, AllFit, frameHeader}
-use Rattle.pdu.specs.Read.{Reading, read, readOf, pdusOf, shown, shownAll, payloadOf, withMore}
-use Rattle.pdu.proofs.Reading.{frame-read, frame-payloads}
+use Rattle.pdu.specs.Read.{Reading, read, readOf, pdusOf, shown, shownAll, payloadOf}
+use Rattle.pdu.proofs.Reading.{shown-length, shown-front}
 use Rattle.created_frame.specs.declared.Builder.{Builder}
 use Rattle.created_frame.specs.Built.{Built}
-use Rattle.created_frame.proofs.Built.{built-length}
+use Rattle.created_frame.proofs.Built.{built-length, built-read, built-payloads}
 use Rattle.spread.specs.Laid.{laidIn, stateOf, laid, statesOf, Fitting, AllBuilt}
 use Rattle.spread.specs.ReadBack.{frameOf, framesOf, fieldsIn, AllRead, Back, backAt, readBack, Kept, same, more-follows, StillThere}
-use Rattle.spread.proofs.Lists.{map-append, map-drop, map-take}
 
 -- ---- an area
 
-pub laid-length : (size : ℕ) (ps : List Pdu) → length (layout ps) ≤ size → length (laidIn size ps) ≡ size
+laid-length : (size : ℕ) (ps : List Pdu) → length (layout ps) ≤ size → length (laidIn size ps) ≡ size
 unfolding laidIn
 laid-length size ps h = omega (arith, length-append (layout ps) (replicate (size - length (layout ps)) 0), length-replicate {A = ℕ} (size - length (layout ps)) 0)
 
 -- it is as our builder leaves one
-pub laid-built : (size : ℕ) (ps : List Pdu) → size ≤ 2047 → length (layout ps) ≤ size → AllFit ps → Built ps (laidIn size ps) (stateOf ps)
+laid-built : (size : ℕ) (ps : List Pdu) → size ≤ 2047 → length (layout ps) ≤ size → AllFit ps → Built ps (laidIn size ps) (stateOf ps)
 unfolding laidIn
 laid-built size ps m h fit =
     record { free = size - length (layout ps); bytes = refl; small = omega (arith, laid-length size ps h); used-is = refl; count-is = refl; last-is = refl; fit = fit }
@@ -46,21 +44,28 @@ module _ (ps : List Pdu) (xs : List ℕ) (b : Builder) (h : Built ps xs b) where
 -- ---- one frame
 
 module _ (size : ℕ) (ps : List Pdu) (rest : List ℕ) (m : size ≤ 2047) (h : length (layout ps) ≤ size) (fit : AllFit ps) where
-  frame-is : frameOf (laidIn size ps ++ rest) (stateOf ps) ≡ frameHeader (length (layout ps)) ++ (layout ps ++ [])
-  unfolding laidIn
-  frame-is =
-      let z : List ℕ = replicate (size - length (layout ps)) 0 in
-      let t : take (length (layout ps)) ((layout ps ++ z) ++ rest) ≡ layout ps ++ [] =
-      ap (take (length (layout ps))) (append-assoc (layout ps) z rest) ∙ take-at (layout ps) (z ++ rest) (length (layout ps)) refl ∙ sym (append-nil (layout ps)) in
-      ap (λ (l : List ℕ). frameHeader (length (layout ps)) ++ l) t
+  -- what lies behind the area is not in its frame
+  same-frame : frameOf (laidIn size ps ++ rest) (stateOf ps) ≡ frameOf (laidIn size ps) (stateOf ps)
+  same-frame = ap (λ (l : List ℕ). frameHeader (length (layout ps)) ++ l) (take-append-le (length (layout ps)) (laidIn size ps) rest (omega (arith, laid-length size ps h)))
 
-  pub one-read : readOf (frameOf (laidIn size ps ++ rest) (stateOf ps)) ≡ read (shownAll 2 ps)
-  one-read = ap readOf frame-is ∙ frame-read ps [] fit (omega arith)
+  one-read : readOf (frameOf (laidIn size ps ++ rest) (stateOf ps)) ≡ read (shownAll 2 ps)
+  one-read = ap readOf same-frame ∙ built-read ps (laidIn size ps) (stateOf ps) (laid-built size ps m h fit)
 
-  pub one-payloads : map (payloadOf (frameOf (laidIn size ps ++ rest) (stateOf ps))) (shownAll 2 ps) ≡ map (λ (p : Pdu). p .payload) ps
-  one-payloads = rw frame-is (frame-payloads ps [] fit (omega arith))
+  one-payloads : map (payloadOf (frameOf (laidIn size ps ++ rest) (stateOf ps))) (shownAll 2 ps) ≡ map (λ (p : Pdu). p .payload) ps
+  one-payloads = rw same-frame (built-payloads ps (laidIn size ps) (stateOf ps) (laid-built size ps m h fit))
 
 -- ---- the PDUs behind others
+
+module _ {A B : Type 0} (f : A → B) where
+  map-drop : (n : ℕ) (xs : List A) → map f (drop n xs) ≡ drop n (map f xs)
+  map-drop zero xs = refl
+  map-drop (suc n) [] = refl
+  map-drop (suc n) (x ∷ xs) = map-drop n xs
+
+  map-take : (n : ℕ) (xs : List A) → map f (take n xs) ≡ take n (map f xs)
+  map-take zero xs = refl
+  map-take (suc n) [] = refl
+  map-take (suc n) (x ∷ xs) = ap (λ (z : List B). f x ∷ z) (map-take n xs)
 
 -- a PDU as it should be read back
 abbrev pub backOf : ℕ → Pdu → Back
@@ -75,7 +80,7 @@ backs-one a i f (p ∷ ps) e =
     let y : map (payloadOf f) (shownAll (i + (12 + length (p .payload))) ps) ≡ map (λ (q : Pdu). q .payload) ps = cc in
     rw (x, backs-one a (i + (12 + length (p .payload))) f ps y) refl
 
-pub behind-olds : (a : ℕ) (f : List ℕ) (olds ps : List Pdu) → readOf f ≡ read (shownAll 2 (olds ++ ps))
+behind-olds : (a : ℕ) (f : List ℕ) (olds ps : List Pdu) → readOf f ≡ read (shownAll 2 (olds ++ ps))
     → map (payloadOf f) (shownAll 2 (olds ++ ps)) ≡ map (λ (p : Pdu). p .payload) (olds ++ ps)
     → map (backAt a f) (drop (length olds) (fieldsIn f)) ≡ map (backOf a) ps
 behind-olds a f olds ps r e =
@@ -86,23 +91,12 @@ behind-olds a f olds ps r e =
 
 -- ---- the PDUs before them
 
-shown-length : (i : ℕ) (ps : List Pdu) → length (shownAll i ps) ≡ length ps
-unfolding shownAll
-shown-length i [] = refl
-shown-length i (p ∷ ps) = ap suc (shown-length (i + (12 + length (p .payload))) ps)
-
-shown-front : (i : ℕ) (ps : List Pdu) (q : Pdu) (qs : List Pdu) → take (length ps) (shownAll i (ps ++ (q ∷ qs))) ≡ withMore (shownAll i ps)
-unfolding shownAll withMore
-shown-front i [] q qs = refl
-shown-front i (p ∷ []) q qs = refl
-shown-front i (p ∷ r ∷ ps) q qs = ap (λ (z : List PduFields). shown i p 1 ∷ z) (shown-front (i + (12 + length (p .payload))) (r ∷ ps) q qs)
-
 front-kept : (olds ps : List Pdu) → Kept (shownAll 2 olds) (take (length olds) (shownAll 2 (olds ++ ps)))
 front-kept olds [] = rw (append-nil olds, take-all (length olds) (shownAll 2 olds) (omega (arith, shown-length 2 olds))) same
 front-kept olds (q ∷ qs) = rw (shown-front 2 olds q qs) more-follows
 
 -- f₀ had `olds`; f has them, and `ps` behind them
-pub still-there : (f₀ f : List ℕ) (olds ps : List Pdu)
+still-there : (f₀ f : List ℕ) (olds ps : List Pdu)
     → readOf f₀ ≡ read (shownAll 2 olds) → map (payloadOf f₀) (shownAll 2 olds) ≡ map (λ (p : Pdu). p .payload) olds
     → readOf f ≡ read (shownAll 2 (olds ++ ps)) → map (payloadOf f) (shownAll 2 (olds ++ ps)) ≡ map (λ (p : Pdu). p .payload) (olds ++ ps)
     → StillThere (length olds) f₀ f

@@ -2,7 +2,6 @@ pub mod Push
 pub mod Parts
 pub mod Going
 pub mod Laws
-pub mod Lists
 pub mod Laid
 pub mod Plan
 pub mod Greedy

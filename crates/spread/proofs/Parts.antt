@@ -1,13 +1,13 @@
--- What a callee leaves in a part of the row, said of the whole row: laws of `overlay`.
+-- What a callee leaves in a part of the row, said of the whole row: it is laid over it.
 use mathlib.Core.Path.{_≡_, _∙_, sym, refl, ap}
-use mathlib.Core.List.{List, _++_, append-assoc}
+use mathlib.Core.List.{List}
 use Prim.Native.Nat.{ℕ, _+_, _-_, _≤_}
 use native.Mathlib.Nat.{add-sub-cancel-left}
 use native.Mathlib.Omega.{arith}
 use borrow.Rule.Slice.PartMut.{putMid}
 use borrow.Author.Tests.{le-leb}
-use lib.ListN.{length, take, drop, replicate, length-take, length-drop, length-append, length-replicate}
-use lib.Seq.{take-all, take-at, drop-at, length-take-le}
+use lib.ListN.{length, take, drop, replicate, length-take, length-drop, length-replicate}
+use lib.Seq.{take-all}
 use Rattle.wire.specs.Bytes.{overlay}
 use Rattle.wire.proofs.Laws.{overlay-part}
 use Rattle.created_frame.specs.declared.Builder.{Builder}
@@ -16,42 +16,10 @@ use Rattle.created_frame.specs.Answers.{saidRest}
 use Rattle.created_frame.specs.Frame.{afterOpen, restPushed, restBuilder, restNext, afterRest}
 use Rattle.spread.specs.Row.{zeroed}
 
--- ---- a list laid over another
-
-module _ (xs : List ℕ) (at : ℕ) (ys : List ℕ) (h : at + length ys ≤ length xs) where
-  front : length (take at xs) ≡ at
-  front = length-take-le at xs (omega arith)
-
-  pub take-overlay : take (at + length ys) (overlay xs at ys) ≡ take at xs ++ ys
-  unfolding overlay
-  take-overlay = take-at (take at xs ++ ys) (drop (at + length ys) xs) (at + length ys) (length-append (take at xs) ys ∙ rw front refl)
-
-  pub drop-overlay : drop (at + length ys) (overlay xs at ys) ≡ drop (at + length ys) xs
-  unfolding overlay
-  drop-overlay = drop-at (take at xs ++ ys) (drop (at + length ys) xs) (at + length ys) (length-append (take at xs) ys ∙ rw front refl)
-
-  pub middle-overlay : take (length ys) (drop at (overlay xs at ys)) ≡ ys
-  unfolding overlay
-  middle-overlay =
-      ap (λ (z : List ℕ). take (length ys) (drop at z)) (append-assoc (take at xs) ys (drop (at + length ys) xs))
-      ∙ ap (λ (z : List ℕ). take (length ys) z) (drop-at (take at xs) (ys ++ drop (at + length ys) xs) at front)
-      ∙ take-at ys (drop (at + length ys) xs) (length ys) refl
-
-  -- laid again at the same place
-  pub overlay-again : (zs : List ℕ) → length zs ≡ length ys → overlay (overlay xs at ys) at zs ≡ overlay xs at zs
-  unfolding overlay
-  overlay-again zs e =
-      let d : drop (at + length zs) (overlay xs at ys) ≡ drop (at + length zs) xs = rw e drop-overlay in
-      let t : take at (overlay xs at ys) ≡ take at xs =
-      ap (λ (z : List ℕ). take at z) (append-assoc (take at xs) ys (drop (at + length ys) xs)) ∙ take-at (take at xs) (ys ++ drop (at + length ys) xs) at front in
-      rw (d, t) refl
-
--- ---- a part lent to a callee
-
 part-is : (at size : ℕ) (xs : List ℕ) → take (at + size - at) (drop at xs) ≡ take size (drop at xs)
 part-is at size xs = ap (λ (z : ℕ). take z (drop at xs)) (add-sub-cancel-left at size)
 
-part-length : (at size : ℕ) (xs : List ℕ) → at + size ≤ length xs → length (take size (drop at xs)) ≡ size
+pub part-length : (at size : ℕ) (xs : List ℕ) → at + size ≤ length xs → length (take size (drop at xs)) ≡ size
 part-length at size xs h = simp (length-take, length-drop) (omega arith)
 
 -- one that is opened

@@ -4,30 +4,21 @@ use Prim.Native.Nat.{ℕ, zero, suc, _+_, _-_, _≤_, _<_}
 use native.Mathlib.Omega.{arith}
 use mathlib.Core.Bool.{Bool, true, false}
 use mathlib.Core.List.{List, [], _∷_, _++_, append-nil, map}
-use lib.ListN.{length, take, drop, replicate, length-append, length-replicate, length-take, length-drop, take-append-drop, drop-of-length-le}
+use lib.ListN.{length, take, drop, length-take, take-append-drop, drop-of-length-le}
 use lib.Dec.{eqb}
-use lib.Seq.{length-take-le, drop-drop}
+use lib.Seq.{drop-drop}
 use borrow.Author.Tests.{eqb-true, eqb-false, eq-eqb, ne-eqb}
 use Rattle.refusal.specs.Said.{pick}
 use Rattle.pdu.specs.Pdu.{Pdu, layout, AllFit}
-use Rattle.pdu.proofs.Rows.{layout-none, layout-length}
+use Rattle.pdu.proofs.Rows.{layout-none, layout-length, append-length, fit-append}
 use Rattle.cuts.specs.Cut.{Piece, Chain, Rising, load, Permitted, freeOf}
 use Rattle.cuts.proofs.Laws.{chain-le, free-later}
 use Rattle.created_frame.specs.Frame.{after}
+use Rattle.created_frame.proofs.Built.{made-length}
 use Rattle.spread.specs.Laid.{bytesOf, pduOf, inArea, newsOf, Fitting}
 use Rattle.spread.specs.ReadBack.{Back, joined, piecesOf, Numbered}
+use Rattle.spread.proofs.Parts.{part-length}
 use Rattle.spread.proofs.Laid.{backOf, backs}
-
--- ---- rows of PDUs
-
-layout-append : (xs ys : List Pdu) → length (layout (xs ++ ys)) ≡ length (layout xs) + length (layout ys)
-layout-append [] ys = omega (arith, layout-none)
-layout-append (x ∷ xs) ys = omega (arith, layout-length x (xs ++ ys), layout-length x xs, layout-append xs ys)
-
-fit-append : (xs ys : List Pdu) → AllFit xs → AllFit ys → AllFit (xs ++ ys)
-unfolding AllFit
-fit-append [] ys a b = b
-fit-append (x ∷ xs) ys a b = (a .0, fit-append xs ys (a .1) b)
 
 -- ---- areas are numbered from 1, and never fall
 
@@ -83,12 +74,9 @@ module _ (command address : ℕ) (image : List ℕ) where
   no-news (suc d) i index = no-news d (suc i) index
 
   -- a piece's PDU has its bytes
-  part-length : (p : Piece) → p .offset + p .size ≤ length image → length (bytesOf command address image p) ≡ p .size
-  part-length p h = length-take-le (p .size) (drop (p .offset) image) (simp length-drop (omega arith))
-
   pdu-payload : (index : ℕ) (p : Piece) → p .offset + p .size ≤ length image → pduOf command address image index p .payload ≡ bytesOf command address image p
   pdu-payload index p h =
-      let z : p .size - length (bytesOf command address image p) ≡ 0 = omega (arith, part-length p h) in
+      let z : p .size - length (bytesOf command address image p) ≡ 0 = omega (arith, part-length (p .offset) (p .size) image h) in
       rw z (append-nil (bytesOf command address image p))
 
   inside : (o : ℕ) (p : Piece) (ps : List Piece) → Chain o (length image) (p ∷ ps) → p .offset + p .size ≤ length image
@@ -119,14 +107,14 @@ module _ (command address : ℕ) (image : List ℕ) where
   unfolding Chain carriedBy piecesOf
   carried-pieces index [] o c = refl
   carried-pieces index (p ∷ ps) o c =
-      let l : length (bytesOf command address image p) ≡ p .size = part-length p (inside o p ps c) in
+      let l : length (bytesOf command address image p) ≡ p .size = part-length (p .offset) (p .size) image (inside o p ps c) in
       rw (l, carried-pieces (after index) ps (o + p .size) (c .2), ← c .0) refl
 
   pub carried-numbered : (index : ℕ) (ps : List Piece) (o : ℕ) → Chain o (length image) ps → Numbered command address index o (carriedBy index ps)
   unfolding Chain carriedBy Numbered
   carried-numbered index [] o c = tt
   carried-numbered index (p ∷ ps) o c =
-      let l : length (bytesOf command address image p) ≡ p .size = part-length p (inside o p ps c) in
+      let l : length (bytesOf command address image p) ≡ p .size = part-length (p .offset) (p .size) image (inside o p ps c) in
       rw l (refl, refl, ap (λ (z : ℕ). address + z) (c .0), carried-numbered (after index) ps (o + p .size) (c .2))
 
   pub carried-count : (index : ℕ) (ps : List Piece) → length (carriedBy index ps) ≡ length ps
@@ -136,9 +124,8 @@ module _ (command address : ℕ) (image : List ℕ) where
 
   -- ---- the areas of a permitted plan have room
 
-  made-length : (index : ℕ) (p : Piece) → length (pduOf command address image index p .payload) ≡ p .size
-  made-length index p =
-      omega (arith, length-append (bytesOf command address image p) (replicate {A = ℕ} (p .size - length (bytesOf command address image p)) 0), length-replicate {A = ℕ} (p .size - length (bytesOf command address image p)) 0, length-take (p .size) (drop (p .offset) image))
+  piece-length : (index : ℕ) (p : Piece) → length (pduOf command address image index p .payload) ≡ p .size
+  piece-length index p = made-length index command (address + p .offset) (bytesOf command address image p) (p .size) (simp length-take (omega arith))
 
   -- an area's PDUs take what the plan's pieces need
   area-load : (k index : ℕ) (ps : List Piece) → length (layout (inArea command address image k index ps)) ≡ load k ps
@@ -148,7 +135,7 @@ module _ (command address : ℕ) (image : List ℕ) where
     where
       go : (b : Bool) → length (layout (inArea command address image k (after index) ps)) ≡ load k ps
           → length (layout (pick b (pduOf command address image index p ∷ inArea command address image k (after index) ps) (inArea command address image k (after index) ps))) ≡ pick b (p .size + 12) 0 + load k ps
-      go true ih = omega (arith, layout-length (pduOf command address image index p) (inArea command address image k (after index) ps), made-length index p)
+      go true ih = omega (arith, layout-length (pduOf command address image index p) (inArea command address image k (after index) ps), piece-length index p)
       go false ih = omega arith
 
   module _ (n : ℕ) (reach : address + n ≤ 4294967296) where
@@ -173,7 +160,7 @@ module _ (command address : ℕ) (image : List ℕ) where
             address-fits = omega (arith, c .0, c .1);
             extra-fits = omega arith;
             irq-fits = omega arith;
-            payload-fits = omega (arith, made-length index p);
+            payload-fits = omega (arith, piece-length index p);
             counter-fits = omega arith;
           },
           ih,
@@ -192,7 +179,7 @@ module _ (command address : ℕ) (image : List ℕ) where
     unfolding Fitting newsOf
     fitting zero m index size used olds ps p s u v a = tt
     fitting (suc d) m index size used olds ps p s u v a =
-        (omega (arith, layout-append olds (inArea command address image 1 index ps), area-load 1 index ps, p .fits 1), fit-append olds (inArea command address image 1 index ps) a (area-fit 1 index 0 ps (p .chain) most), fit-later d 1 index size ps (p .chain) most later)
+        (omega (arith, append-length olds (inArea command address image 1 index ps), area-load 1 index ps, p .fits 1), fit-append olds (inArea command address image 1 index ps) a (area-fit 1 index 0 ps (p .chain) most), fit-later d 1 index size ps (p .chain) most later)
       where
         most : (k : ℕ) → load k ps ≤ 2047
         most k = go (eqb k 1) (p .fits k)

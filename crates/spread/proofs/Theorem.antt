@@ -1,6 +1,6 @@
 -- Demand 3, of the rule and then of the call: the run carries out the greedy plan, its areas are laid with the plan's PDUs, and these read back as the plan's pieces.
 use mathlib.Core.Path.{_≡_, refl, sym, ap, _∙_}
-use mathlib.Core.Bool.{true, false, false≢true}
+use mathlib.Core.Bool.{true, false≢true}
 use mathlib.Core.List.{List, [], _∷_, _++_}
 use Prim.Native.Nat.{ℕ, _+_, _-_, _*_, _/_, _≤_}
 use native.Mathlib.Omega.{arith}
@@ -9,6 +9,7 @@ use borrow.Author.Tests.{leb-true, le-leb}
 use lib.ListN.{length, take, drop, length-take, length-append, length-drop}
 use lib.Seq.{take-take, take-at, drop-at, length-take-le}
 use Rattle.refusal.specs.Said.{Said, gives, refuses, numberOf, valuesOf}
+use Rattle.refusal.proofs.Unique.{gives-none}
 use Rattle.refusal.specs.declared.Refusal.{Refusal}
 use Rattle.refusal.specs.declared.Refusal.the-variants.{NoRoom}
 use Rattle.pdu.specs.Pdu.{Pdu}
@@ -72,9 +73,6 @@ module _ (row : List ℕ) (size : ℕ) (first : Builder) (index command address 
       }
 
 -- ---- the rule
-
-sized : (number : ℕ) (l m : List ℕ) → refuses number l ≡ gives m → ⊥
-sized number l m e = let z : _≡_ {A = ℕ} 0 1 = cc in omega arith
 
 module _ (row : List ℕ) (size : ℕ) (first : Builder) (index command address : ℕ) (image : List ℕ) where
   abbrev free : ℕ → ℕ
@@ -156,7 +154,7 @@ module _ (row : List ℕ) (size : ℕ) (first : Builder) (index command address 
   pub answered-built : (olds : List Pdu) (k : ℕ) → Built olds (take size row) first → told ≡ gives (k ∷ []) → Spreads row size first index command address image olds (out row size first index command address image .run) k
   answered-built olds k h =
       ways row size first index command address image (λ (o : Outcome). o .said ≡ gives (k ∷ []) → Spreads row size first index command address image olds (o .run) k)
-      (λ p e. absurd (sized _ _ _ e)) (λ p q e. absurd (sized _ _ _ e)) (λ p q r e. absurd (sized _ _ _ e))
+      (λ p e. absurd (gives-none _ _ _ e)) (λ p q e. absurd (gives-none _ _ _ e)) (λ p q r e. absurd (gives-none _ _ _ e))
       (λ p q r e. (let v : length (runs .states) ≡ k = cc in rw (← v) (spreads p q r olds h)))
 
   -- .. where the first area is as our builder left it
@@ -167,14 +165,14 @@ module _ (row : List ℕ) (size : ℕ) (first : Builder) (index command address 
   pub unchanged : (number : ℕ) (l : List ℕ) → told ≡ refuses number l → out row size first index command address image .run ≡ stopped row index
   unchanged number l =
       ways row size first index command address image (λ (o : Outcome). o .said ≡ refuses number l → o .run ≡ stopped row index)
-      (λ p e. refl) (λ p q e. refl) (λ p q r e. refl) (λ p q r e. absurd (sized _ _ _ (sym e)))
+      (λ p e. refl) (λ p q e. refl) (λ p q r e. refl) (λ p q r e. absurd (gives-none _ _ _ (sym e)))
 
   -- it is refused with 13 exactly if, arguments and addresses allowing, no permitted cutting exists
   pub no-room : (l : List ℕ) → told ≡ refuses 13 l → (ps : List Piece) → Cut ps → ⊥
   no-room l told-13 ps c =
       ways row size first index command address image (λ (o : Outcome). o .said ≡ refuses 13 l → ⊥)
       (λ p e. (let z : _≡_ {A = ℕ} 14 13 = cc in omega arith)) (λ p q e. (let z : _≡_ {A = ℕ} 1 13 = cc in omega arith))
-      (λ p q r e. false≢true (sym r ∙ cut-room ps c)) (λ p q r e. sized _ _ _ (sym e)) told-13
+      (λ p q r e. false≢true (sym r ∙ cut-room ps c)) (λ p q r e. gives-none _ _ _ (sym e)) told-13
 
   pub room-lacks : bounds row size first index command address image ≡ true → reaches row size first index command address image ≡ true
       → ((ps : List Piece) → Cut ps → ⊥) → told ≡ refuses 13 []

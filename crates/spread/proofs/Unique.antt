@@ -5,25 +5,25 @@ use Prim.Native.Nat.{ℕ}
 use lib.ListN.{getD}
 use Rattle.refusal.specs.Said.{Said, gives, absent, refuses}
 use Rattle.refusal.specs.declared.Refusal.the-variants.{BadArgument}
-use Rattle.refusal.proofs.Unique.{refusalOf, back}
+use Rattle.refusal.proofs.Unique.{unique, refusalOf, back}
 use Rattle.created_frame.specs.declared.Builder.{Builder}
 use Rattle.spread.specs.declared.SpreadAnswer.{SpreadAnswer}
 use Rattle.spread.specs.declared.SpreadAnswer.the-variants.{Last, No}
 use Rattle.spread.specs.declared.Spreading.{Spreading}
 use Rattle.spread.specs.Answers.{saidLast}
 
-unfoldable pub answerOf : Said → SpreadAnswer
+unfoldable answerOf : Said → SpreadAnswer
 answerOf (gives l) = Last (getD l 0 0)
 answerOf absent = No BadArgument
 answerOf (refuses n l) = No (refusalOf n l)
 
-pub answer-back : (r : SpreadAnswer) → answerOf (saidLast r) ≡ r
+answer-back : (r : SpreadAnswer) → answerOf (saidLast r) ≡ r
 unfolding answerOf
 answer-back (Last k) = refl
 answer-back (No x) = ap No (back x)
 
 pub answer-unique : (a b : SpreadAnswer) (s : Said) → saidLast a ≡ s → saidLast b ≡ s → a ≡ b
-answer-unique a b s p q = sym (answer-back a) ∙ ap answerOf (p ∙ sym q) ∙ answer-back b
+answer-unique = unique saidLast answerOf answer-back
 
 -- what is promised of one result of `spread`
 abbrev pub SpreadGives : Said → List Builder → ℕ → Spreading → Type 0

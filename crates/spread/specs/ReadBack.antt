@@ -5,7 +5,7 @@ use mathlib.Core.List.{List, [], _∷_, _++_, map}
 use lib.ListN.{length, take, drop}
 use Rattle.pdu.specs.declared.PduFields.{PduFields}
 use Rattle.pdu.specs.Pdu.{frameHeader}
-use Rattle.pdu.specs.Read.{refused, read, readOf, pdusOf, payloadOf, withMore}
+use Rattle.pdu.specs.Read.{read, readOf, pdusOf, payloadOf, withMore}
 use Rattle.cuts.specs.Cut.{Piece}
 use Rattle.created_frame.specs.declared.Builder.{Builder}
 use Rattle.created_frame.specs.Frame.{after}

@@ -9,7 +9,6 @@ ghost use mathlib.Core.Path.{_≡_};
 ghost use Prim.Native.Nat.{_+_, _-_, _*_, _≤_};
 ghost use mathlib.Core.List.{[]};
 ghost use lib.ListN.{length, take, drop};
-ghost use Rattle.refusal.specs.Said.{saidOf};
 ghost use Rattle.wire.specs.Bytes.{overlay};
 ghost use Rattle.created_frame.specs.Frame.{fresh, restPushed, restBuilder, restNext, afterRest};
 ghost use Rattle.created_frame.specs.Answers.{saidRest};

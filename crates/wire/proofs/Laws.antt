@@ -1,14 +1,17 @@
 -- Laws of bytes in lists, which every crate above cites. Each follows from the kit's laws of take, drop and append.
-use Prim.Native.Nat.{ℕ, zero, suc, _+_, _-_, _*_, _≤_, _<_, min}
-use native.Mathlib.Nat.{zero-add, add-zero, add-suc, suc-add, add-assoc, le-of-eq, min-zero}
+use Prim.Native.Nat.{ℕ, zero, suc, _+_, _-_, _*_, _/_, _%_, _≤_, _<_, min}
+use native.Mathlib.Nat.{zero-add, add-zero, add-suc, suc-add, add-assoc, min-zero}
 use native.Mathlib.Numerals.{add-one, unary-clauses}
 use native.Mathlib.Omega.{arith}
 use mathlib.Core.Path.{_≡_, refl, sym, ap, _∙_}
+use mathlib.Core.Bool.{Bool, true, false}
 use mathlib.Core.List.{List, [], _∷_, _++_, append-assoc, append-nil}
-use lib.ListN.{length, getD, set, take, drop, length-append, length-take, length-drop, List·getD-eq-default, drop-of-length-le, take-append-drop}
-use lib.Seq.{drop-cons, set-at, take-at, drop-at, drop-drop, take-all}
+use lib.Dec.{leb, ltb}
+use lib.ListN.{length, getD, set, take, drop, length-append, length-take, length-drop, List·getD-eq-default, take-append-drop}
+use lib.Seq.{drop-cons, set-at, take-at, drop-at, drop-drop, take-all, take-nil, take-append-le, take-append-add, getD-append-add}
+use borrow.Author.Tests.{ltb-true, ltb-false, leb-true, leb-false}
 use borrow.Rule.Slice.PartMut.{putMid}
-use Rattle.wire.specs.Bytes.{byteAt, le16, le32, Bytes, span, filled, overlay, laid}
+use Rattle.wire.specs.Bytes.{byteAt, le16, le32, bytes16, bytes32, Bytes, span, filled, overlay, laid}
 
 -- ---- a byte
 
@@ -23,7 +26,23 @@ pub byte-out : (s : List ℕ) (i : ℕ) → length s ≤ i → 255 ≡ byteAt s 
 unfolding byteAt
 byte-out s i h = sym (List·getD-eq-default s 255 h)
 
--- numbers of bytes lie below their width's bound
+-- .. and behind another list it is found as far behind
+pub byte-behind : (pre t : List ℕ) (k : ℕ) → byteAt (pre ++ t) (length pre + k) ≡ byteAt t k
+unfolding byteAt
+byte-behind pre t k = getD-append-add pre t k 255
+
+-- the elements of a lent slice are bytes, so those of its list are
+pub bytes-known : (s : List ℕ) → ((i : ℕ) → getD s i 0 < 256) → Bytes s
+unfolding Bytes
+bytes-known s h i = go (ltb i (length s)) refl
+  where
+    go : (b : Bool) → ltb i (length s) ≡ b → byteAt s i < 256
+    go true e = rw (← byte-in s i (ltb-true _ _ e)) (h i)
+    go false e = rw (← byte-out s i (ltb-false _ _ e)) (omega arith)
+
+-- ---- numbers of bytes
+
+-- they lie below their width's bound
 pub le16-fits : (s : List ℕ) → Bytes s → (i : ℕ) → le16 s i < 65536
 unfolding Bytes
 le16-fits s b i = omega (arith, b i, b (i + 1))
@@ -31,8 +50,23 @@ le16-fits s b i = omega (arith, b i, b (i + 1))
 pub le32-fits : (s : List ℕ) → Bytes s → (i : ℕ) → le32 s i < 4294967296
 le32-fits s b i = omega (arith, le16-fits s b i, le16-fits s b (i + 2))
 
+-- a number is that of its bytes
+pub bytes16-back : (n : ℕ) → n < 65536 → le16 (bytes16 n) 0 ≡ n
+unfolding byteAt
+bytes16-back n h = omega arith
+
+pub bytes32-back : (n : ℕ) → n < 4294967296 → le32 (bytes32 n) 0 ≡ n
+unfolding byteAt
+bytes32-back n h =
+    let top : n / 16777216 % 256 ≡ n / 16777216 = omega arith in
+    let low : n % 256 + 256 * (n / 256 % 256) ≡ n % 65536 = omega arith in
+    let high : n / 65536 % 256 + 256 * (n / 16777216) ≡ n / 65536 = omega arith in
+    rw top (omega (arith, low, high))
+
+-- ---- the place after another, past the end too
+
 -- r reads as the place after i, and so do all that follow
-abbrev pub After : List ℕ → ℕ → ℕ → Type 0
+abbrev After : List ℕ → ℕ → ℕ → Type 0
 After s i r = (k : ℕ) → byteAt s (r + k) ≡ byteAt s (i + (k + 1))
 
 pub after-inside : (s : List ℕ) (i : ℕ) → After s i (i + 1)
@@ -68,17 +102,6 @@ unfolding span
 span-add s i zero m = simp (zero-add, add-zero)
 span-add s i (suc n) m = simp (suc-add, add-suc) (ap (_∷_ (byteAt s i)) (simp (suc-add) at (span-add s (suc i) n m)))
 
-pub length-filled : (s : List ℕ) (i n : ℕ) (buf : List ℕ) → n ≤ length buf → length (filled s i n buf) ≡ length buf
-unfolding filled
-length-filled s i n buf h = simp (length-append, length-span, length-drop) (omega arith)
-
--- a buffer filled by n, then m more from there
-pub filled-add : (s : List ℕ) (i n m : ℕ) (buf : List ℕ) →
-    take n (filled s i n buf) ++ filled s (i + n) m (drop n (filled s i n buf)) ≡ filled s i (n + m) buf
-unfolding filled
-filled-add s i n m buf =
-    simp (take-at (span s i n) (drop n buf) n (length-span s i n), drop-at (span s i n) (drop n buf) n (length-span s i n), drop-drop, span-add, append-assoc)
-
 -- one store more
 pub filled-more : (s : List ℕ) (i n : ℕ) (buf : List ℕ) → n < length buf →
     set (filled s i n buf) n (byteAt s (i + n)) ≡ filled s i (n + 1) buf
@@ -89,12 +112,6 @@ filled-more s i n buf h =
 pub filled-none : (s : List ℕ) (i : ℕ) (buf : List ℕ) → buf ≡ filled s i 0 buf
 unfolding filled span
 filled-none s i buf = refl
-
--- a part `&mut whole[n..]` that a callee filled by m more, put back
-pub filled-tail : (s : List ℕ) (i n m : ℕ) (buf whole part : List ℕ) → whole ≡ filled s i n buf →
-    part ≡ filled s (i + n) m (take (length whole - n) (drop n whole)) → putMid n (length whole - n) whole part ≡ filled s i (n + m) buf
-filled-tail s i n m buf whole part w p =
-    rw (p, take-all (length whole - n) (drop n whole) (le-of-eq (length-drop n whole)), drop-of-length-le (drop n whole) (le-of-eq (length-drop n whole)), append-nil, w) (filled-add s i n m buf)
 
 -- ---- a list laid over another
 
@@ -146,8 +163,45 @@ laid-past xs at ys h =
     let k : length xs - at ≡ 0 = omega arith in
     rw k (overlay-none xs at)
 
+pub laid-none : (xs : List ℕ) (at : ℕ) → laid xs at [] ≡ xs
+unfolding laid
+laid-none xs at = rw (take-nil (length xs - at)) (overlay-none xs at)
+
+pub length-laid : (xs : List ℕ) (at : ℕ) (ys : List ℕ) → length (laid xs at ys) ≡ length xs
+unfolding laid
+length-laid xs at ys = step (leb at (length xs)) refl
+  where
+    step : (t : Bool) → leb at (length xs) ≡ t → length (overlay xs at (take (length xs - at) ys)) ≡ length xs
+    step true e =
+        let h : at ≤ length xs = leb-true _ _ e in
+        length-overlay xs at (take (length xs - at) ys) (omega (arith, length-take (length xs - at) ys))
+    step false e =
+        let h : length xs < at = leb-false _ _ e in
+        ap length (laid-past xs at ys (omega arith))
+
+-- a second list laid just behind the first is the two laid as one
+pub laid-behind : (xs : List ℕ) (at : ℕ) (ys zs : List ℕ) → at + length ys ≤ length xs
+    → laid (laid xs at ys) (at + length ys) zs ≡ laid xs at (ys ++ zs)
+unfolding laid
+laid-behind xs at ys zs h =
+    let d : length xs - at ≡ length ys + (length xs - (at + length ys)) = omega arith in
+    rw (
+      laid-whole xs at ys h,
+      length-overlay xs at ys h,
+      overlay-next xs at ys (take (length xs - (at + length ys)) zs) h,
+      d,
+      take-append-add ys zs (length xs - (at + length ys)),
+    )
+
+-- .. and is not laid at all where the first reaches the end
+pub laid-cut : (xs : List ℕ) (at : ℕ) (ys zs : List ℕ) → length xs ≤ at + length ys → laid xs at (ys ++ zs) ≡ laid xs at ys
+unfolding laid
+laid-cut xs at ys zs h =
+    let d : length xs - at ≤ length ys = omega arith in
+    rw (take-append-le (length xs - at) ys zs d)
+
 -- the first min of both lengths is the same part as the room's
-pub take-min : (k : ℕ) (ys : List ℕ) → take (min (length ys) k) ys ≡ take k ys
+take-min : (k : ℕ) (ys : List ℕ) → take (min (length ys) k) ys ≡ take k ys
 take-min zero ys = rw min-zero
 take-min (suc k) [] = simp unary-clauses
 take-min (suc k) (y ∷ ys) = simp unary-clauses (ap (_∷_ y) (take-min k ys))

@@ -1,11 +1,11 @@
--- Laws of a list's bytes after another is laid over it: inside they are the laid list's, outside what they were.
+-- Laws of a list after another is laid over it, byte by byte and as lists: inside it is the laid list, outside what it was.
 use Prim.Native.Nat.{ℕ, _+_, _-_, _≤_, _<_}
 use native.Mathlib.Omega.{arith}
-use mathlib.Core.Path.{_≡_, ap, _∙_}
+use mathlib.Core.Path.{_≡_, refl, ap, _∙_}
 use mathlib.Core.List.{List, _++_, append-assoc}
 use lib.ListN.{length, getD, take, drop, length-take, List·getD-append}
-use lib.Seq.{getD-append-add, getD-take, getD-drop, take-at}
-use Rattle.wire.specs.Bytes.{byteAt, le16, bytes16, overlay}
+use lib.Seq.{getD-append-add, getD-take, getD-drop, take-at, drop-at, drop-append-add, length-take-le}
+use Rattle.wire.specs.Bytes.{byteAt, overlay}
 use Rattle.wire.proofs.Laws.{front}
 
 module _ (xs : List ℕ) (at : ℕ) (ys : List ℕ) (h : at + length ys ≤ length xs) where
@@ -36,14 +36,37 @@ module _ (xs : List ℕ) (at : ℕ) (ys : List ℕ) (h : at + length ys ≤ leng
       ∙ ap (λ (j : ℕ). getD (take at xs ++ ys) j 255) g
       ∙ getD-append-add (take at xs) ys k 255
 
-  -- what stands before is kept as a list too
+  -- ---- the same as lists
+
+  before : length (take at xs) ≡ at
+  before = length-take-le at xs (omega arith)
+
   pub overlay-front : take at (overlay xs at ys) ≡ take at xs
   unfolding overlay
-  overlay-front =
-      let n : length (take at xs) ≡ at = simp length-take (omega arith) in
-      rw (append-assoc, take-at (take at xs) (ys ++ drop (at + length ys) xs) at n)
+  overlay-front = rw (append-assoc, take-at (take at xs) (ys ++ drop (at + length ys) xs) at before)
 
--- the two bytes of a number of 16 bits are that number
-pub bytes16-back : (n : ℕ) → n < 65536 → le16 (bytes16 n) 0 ≡ n
-unfolding byteAt
-bytes16-back n h = omega arith
+  pub take-overlay : take (at + length ys) (overlay xs at ys) ≡ take at xs ++ ys
+  unfolding overlay
+  take-overlay = take-at (take at xs ++ ys) (drop (at + length ys) xs) (at + length ys) (front xs at ys h)
+
+  pub drop-overlay : drop (at + length ys) (overlay xs at ys) ≡ drop (at + length ys) xs
+  unfolding overlay
+  drop-overlay = drop-at (take at xs ++ ys) (drop (at + length ys) xs) (at + length ys) (front xs at ys h)
+
+  pub middle-overlay : take (length ys) (drop at (overlay xs at ys)) ≡ ys
+  unfolding overlay
+  middle-overlay =
+      rw (append-assoc, drop-at (take at xs) (ys ++ drop (at + length ys) xs) at before) (take-at ys (drop (at + length ys) xs) (length ys) refl)
+
+  -- laid again at the same place
+  pub overlay-again : (zs : List ℕ) → length zs ≡ length ys → overlay (overlay xs at ys) at zs ≡ overlay xs at zs
+  unfolding overlay
+  overlay-again zs e =
+      let d : drop (at + length zs) (overlay xs at ys) ≡ drop (at + length zs) xs = rw e drop-overlay in
+      let t : take at (overlay xs at ys) ≡ take at xs = overlay-front in
+      rw (d, t) refl
+
+-- laid just behind a list
+pub overlay-behind : (xs rest ys : List ℕ) → overlay (xs ++ rest) (length xs) ys ≡ xs ++ (ys ++ drop (length ys) rest)
+unfolding overlay
+overlay-behind xs rest ys = rw (take-at xs rest (length xs) refl, drop-append-add xs rest (length ys)) (append-assoc xs ys (drop (length ys) rest))

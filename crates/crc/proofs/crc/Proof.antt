@@ -4,10 +4,11 @@ use Prim.Native.Nat.{ℕ, _-_, _<_, _≤_}
 use native.Mathlib.Omega.{arith}
 use borrow.Author.Needs.{needs}
 use lib.ListN.{length, getD, drop}
+use Rattle.wire.proofs.Laws.{bytes-known}
 use Rattle.crc.specs.Crc.{start}
 use Rattle.crc.specs.Steps.{stepped}
 use Rattle.crc.proofs.Division.{crc-steps}
-use Rattle.crc.proofs.Laws.{stepped-next, stepped-end, bytes-known}
+use Rattle.crc.proofs.Laws.{stepped-next, stepped-end}
 use Rattle.crc.proofs.crc.Statement.{statement}
 use Rattle.crc.proofs.crc.Tie as tie
 

@@ -4,9 +4,10 @@ use Prim.Native.Nat.{_-_}
 use borrow.Author.Needs.{needs}
 use lib.ListN.{length, drop}
 use Rattle.wire.specs.Bytes.{laid}
+use Rattle.wire.proofs.Laws.{length-laid, laid-none}
 use Rattle.lines.specs.Pairs.{pairsOf}
 use Rattle.lines.specs.Places.{after}
-use Rattle.lines.proofs.Laws.{length-laid, laid-none, after-none, pairs-out, pairs-place, pairs-laid}
+use Rattle.lines.proofs.Laws.{after-none, pairs-out, pairs-place, pairs-laid}
 use Rattle.lines.proofs.pairs.Statement.{statement}
 use Rattle.lines.proofs.pairs.Tie as tie
 

@@ -1,5 +1,4 @@
 -- `wire::word_at` joins the byte at i and the one after it.
-use mathlib.Core.Path.{_≡_, sym, ap, _∙_}
 use borrow.Author.Needs.{needs}
 use Rattle.wire.proofs.Laws.{after-byte}
 use Rattle.wire.proofs.word_at.Statement.{statement}
