@@ -1,5 +1,6 @@
 // The frame builder: PDUs pushed one after the other into a lent area. It follows created_frame.rs of the Rust and document 01, 'Frames';
 // headers are packed by `pdu`. The state of an area goes in and comes back by value, and so does the index counter.
+use pdu::AREA_MOST;
 use refusal::Refusal;
 ghost use mathlib.Core.Path.{_≡_};
 ghost use Prim.Native.Nat.{_+_, _≤_, _<_, max};
@@ -12,8 +13,6 @@ ghost use Rattle.created_frame.specs.Answers.{saidOpened, saidPushed, sa
 pub const PDU_OVERHEAD_BYTES: usize = 12;
 
 const HEADER_BYTES: usize = 10;
-
-const AREA_MOST: usize = 2047;
 
 const COMMAND_MOST: u8 = 14;
 

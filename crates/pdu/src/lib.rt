@@ -7,6 +7,9 @@ ghost use Rattle.pdu.specs.Pdu.{areaMost, headerOf, frameHeader};
 ghost use Rattle.pdu.specs.Read.{rightly};
 ghost use Rattle.pdu.specs.Answers.{saidHeader, headerSaid, headerLeft};
 
+// The largest area, and so the most bytes that a frame's PDUs take: what the 11 bits of a length hold.
+pub const AREA_MOST: usize = 2047;
+
 // A PDU's fields as they are read. Its payload lies at `place`, counted from the frame's first byte, for `len` bytes.
 pub struct PduFields {
     pub command: u8,
@@ -65,7 +68,7 @@ fn packed_frame_header(used: usize) -> [u8; 2]
 pub fn frame_header(used: usize) -> FrameHead
     ensures { λ r. ⌜ (saidHeader (r .answer) ≡ headerSaid used) × (r .bytes ≡ headerLeft used) ⌝ }
 {
-    if used <= 2047 {
+    if used <= AREA_MOST {
         let bytes = packed_frame_header(used);
         FrameHead {
             answer: HeaderAnswer::Header,

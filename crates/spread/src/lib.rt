@@ -4,19 +4,19 @@ use created_frame::Builder;
 use created_frame::PDU_OVERHEAD_BYTES;
 use created_frame::Rest;
 use created_frame::RestPush;
+use pdu::AREA_MOST;
 use refusal::Refusal;
 ghost use mathlib.Core.Path.{_≡_};
 ghost use Prim.Native.Nat.{_+_, _-_, _*_, _≤_};
 ghost use mathlib.Core.List.{[]};
 ghost use lib.ListN.{length, take, drop};
 ghost use Rattle.wire.specs.Bytes.{overlay};
+ghost use Rattle.pdu.specs.Pdu.{areaMost};
 ghost use Rattle.created_frame.specs.Frame.{fresh, restPushed, restBuilder, restNext, afterRest};
 ghost use Rattle.created_frame.specs.Answers.{saidRest};
 ghost use Rattle.spread.specs.Answers.{saidLast, firstOf};
 ghost use Rattle.spread.specs.declared.SpreadAnswer.the-variants.{Last, No};
-ghost use Rattle.spread.specs.Row.{zeroed, rowFrom, lawful, roomIn, padded, spreadOf, Fillable};
-
-const AREA_MOST: usize = 2047;
+ghost use Rattle.spread.specs.Row.{areasMost, zeroed, rowFrom, lawful, roomIn, padded, spreadOf, Fillable};
 
 const AREAS_MOST: usize = 32;
 
@@ -124,7 +124,7 @@ fn monus(a: usize, b: usize) -> usize
 
 // How many bytes of an image the areas have room for.
 fn room_for(count: usize, size: usize, used: usize) -> usize
-    requires { ⌜ (1 ≤ count) × (count ≤ 32) × (size ≤ 2047) ⌝ }
+    requires { ⌜ (1 ≤ count) × (count ≤ areasMost) × (size ≤ areaMost) ⌝ }
     ensures { λ r. ⌜ r ≡ roomIn count size used ⌝ }
 {
     let later = monus(size, PDU_OVERHEAD_BYTES);
@@ -173,7 +173,7 @@ fn taken_of(r: Rest) -> usize
 
 // The area of `size` bytes at `at` is opened.
 fn open_at(areas: &mut [u8], at: usize, size: usize)
-    requires { ⌜ (at + size ≤ length (now areas)) × (size ≤ 2047) ⌝ }
+    requires { ⌜ (at + size ≤ length (now areas)) × (size ≤ areaMost) ⌝ }
     ensures { λ _. ⌜ now (areas .exit) ≡ overlay (now (areas .entry)) at (zeroed size) ⌝ }
 {
     let end = at + size;
