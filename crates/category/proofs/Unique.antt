@@ -1,8 +1,8 @@
 -- An answer is known from what it says, by an inverse: so the promise on what is said allows one answer.
-use mathlib.Core.Path.{_≡_, refl, sym, ap, _∙_}
+use mathlib.Core.Path.{_≡_, refl, ap}
 use lib.ListN.{getD}
 use Rattle.refusal.specs.Said.{Said, gives, absent, refuses}
-use Rattle.refusal.proofs.Unique.{refusalOf, back}
+use Rattle.refusal.proofs.Unique.{unique, refusalOf, back}
 use Rattle.category.specs.Answers.{saidFound}
 use Rattle.category.specs.declared.Found.{Found}
 use Rattle.category.specs.declared.Found.the-variants as found
@@ -19,4 +19,4 @@ found-back found.Absent = refl
 found-back (found.No x) = ap found.No (back x)
 
 pub found-unique : (a b : Found) (s : Said) → saidFound a ≡ s → saidFound b ≡ s → a ≡ b
-found-unique a b s p q = sym (found-back a) ∙ ap foundOf (p ∙ sym q) ∙ found-back b
+found-unique = unique saidFound foundOf found-back

@@ -1,6 +1,6 @@
 -- An answer is known from what it says, by an inverse of its map into Said: so a promise on what is said allows one answer.
 use Prim.Native.Nat.{ℕ}
-use mathlib.Core.Path.{_≡_, refl, sym, ap, _∙_}
+use mathlib.Core.Path.{_≡_, refl, ap}
 use mathlib.Core.List.{List}
 use mathlib.Core.Bool.{Bool, false, _&&_}
 use lib.ListN.{length, getD}
@@ -23,7 +23,7 @@ use Rattle.refusal.specs.declared.Refusal.the-variants.{
   NoRoom,
   BadArgument,
 }
-use Rattle.refusal.proofs.Unique.{refusalOf, back}
+use Rattle.refusal.proofs.Unique.{unique, refusalOf, back}
 use Rattle.eeprom.specs.Answers.{saidRange, saidByte, saidReading, saidExact, saidWriting}
 use Rattle.eeprom.specs.declared.Range.{Range}
 use Rattle.eeprom.specs.declared.RangeAnswer.{RangeAnswer}
@@ -54,7 +54,7 @@ range-back (range.Made g) = refl
 range-back (range.No x) = ap range.No (back x)
 
 pub range-unique : (a b : RangeAnswer) (s : Said) → saidRange a ≡ s → saidRange b ≡ s → a ≡ b
-range-unique a b s p q = sym (range-back a) ∙ ap rangeOf (p ∙ sym q) ∙ range-back b
+range-unique = unique saidRange rangeOf range-back
 
 -- ---- a byte
 
@@ -69,7 +69,7 @@ byte-back (byte.Byte b g) = refl
 byte-back (byte.No x) = ap byte.No (back x)
 
 pub byte-unique : (a b : ByteAnswer) (s : Said) → saidByte a ≡ s → saidByte b ≡ s → a ≡ b
-byte-unique a b s p q = sym (byte-back a) ∙ ap byteOf (p ∙ sym q) ∙ byte-back b
+byte-unique = unique saidByte byteOf byte-back
 
 -- ---- a read
 
@@ -84,7 +84,7 @@ reading-back (reading.Took n g) = refl
 reading-back (reading.No x) = ap reading.No (back x)
 
 pub reading-unique : (a b : Reading) (s : Said) → saidReading a ≡ s → saidReading b ≡ s → a ≡ b
-reading-unique a b s p q = sym (reading-back a) ∙ ap readingOf (p ∙ sym q) ∙ reading-back b
+reading-unique = unique saidReading readingOf reading-back
 
 -- ---- a refusal that comes with the range: it has values, where the refusal of that number alone has none
 
@@ -122,7 +122,7 @@ exact-back (exact.Short g) = refl
 exact-back (exact.No x) = rw (moved-not 2 refl x) (ap exact.No (back x))
 
 pub exact-unique : (a b : Exact) (s : Said) → saidExact a ≡ s → saidExact b ≡ s → a ≡ b
-exact-unique a b s p q = sym (exact-back a) ∙ ap exactOf (p ∙ sym q) ∙ exact-back b
+exact-unique = unique saidExact exactOf exact-back
 
 -- ---- a write
 
@@ -138,4 +138,4 @@ writing-back (writing.Stopped g) = refl
 writing-back (writing.No x) = rw (moved-not 7 refl x) (ap writing.No (back x))
 
 pub writing-unique : (a b : Writing) (s : Said) → saidWriting a ≡ s → saidWriting b ≡ s → a ≡ b
-writing-unique a b s p q = sym (writing-back a) ∙ ap writingOf (p ∙ sym q) ∙ writing-back b
+writing-unique = unique saidWriting writingOf writing-back

@@ -1,9 +1,9 @@
 -- An answer is known from what it says, by an inverse: so a promise on what is said allows one answer.
-use mathlib.Core.Path.{_≡_, refl, sym, ap, _∙_}
+use mathlib.Core.Path.{_≡_, refl, ap}
 use lib.ListN.{getD}
 use Rattle.refusal.specs.Said.{Said, gives, absent, refuses}
 use Rattle.refusal.specs.declared.Refusal.the-variants.{BadArgument}
-use Rattle.refusal.proofs.Unique.{refusalOf, back}
+use Rattle.refusal.proofs.Unique.{unique, refusalOf, back}
 use Rattle.held.specs.Answers.{saidOutcome, saidByteRead, saidCounted}
 use Rattle.held.specs.declared.Outcome.{Outcome}
 use Rattle.held.specs.declared.Outcome.the-variants as outcome
@@ -25,7 +25,7 @@ outcome-back outcome.Done = refl
 outcome-back (outcome.No x) = ap outcome.No (back x)
 
 pub outcome-unique : (a b : Outcome) (s : Said) → saidOutcome a ≡ s → saidOutcome b ≡ s → a ≡ b
-outcome-unique a b s p q = sym (outcome-back a) ∙ ap outcomeOf (p ∙ sym q) ∙ outcome-back b
+outcome-unique = unique saidOutcome outcomeOf outcome-back
 
 -- ---- a byte
 
@@ -40,7 +40,7 @@ byte-read-back (byte.Byte b) = refl
 byte-read-back (byte.No x) = ap byte.No (back x)
 
 pub byte-read-unique : (a b : ByteRead) (s : Said) → saidByteRead a ≡ s → saidByteRead b ≡ s → a ≡ b
-byte-read-unique a b s p q = sym (byte-read-back a) ∙ ap byteReadOf (p ∙ sym q) ∙ byte-read-back b
+byte-read-unique = unique saidByteRead byteReadOf byte-read-back
 
 -- ---- a count
 
@@ -55,4 +55,4 @@ counted-back (counted.Bytes n) = refl
 counted-back (counted.No x) = ap counted.No (back x)
 
 pub counted-unique : (a b : Counted) (s : Said) → saidCounted a ≡ s → saidCounted b ≡ s → a ≡ b
-counted-unique a b s p q = sym (counted-back a) ∙ ap countedOf (p ∙ sym q) ∙ counted-back b
+counted-unique = unique saidCounted countedOf counted-back

@@ -1,6 +1,6 @@
 -- A list that comes back is known from its promise, by an inverse: the answer from what is said, the count and every place as they are.
 use Prim.Native.Nat.{ℕ}
-use mathlib.Core.Path.{_≡_, refl, sym, ap, _∙_}
+use mathlib.Core.Path.{_≡_, refl, ap}
 use Rattle.refusal.specs.Said.{Said, gives, absent, refuses}
 use Rattle.refusal.proofs.Unique as refusals
 use Rattle.lists.specs.Records.{Back}
@@ -25,36 +25,36 @@ list-back (list.No x) = ap list.No (refusals.back x)
 
 -- ---- sync managers
 
-unfoldable pub smsFrom : Back SyncManager → SyncManagers
+unfoldable smsFrom : Back SyncManager → SyncManagers
 smsFrom b = record { answer = listOf (b .says); count = b .count; items = b .places }
 
-pub sms-back : (r : SyncManagers) → smsFrom (backSms r) ≡ r
+sms-back : (r : SyncManagers) → smsFrom (backSms r) ≡ r
 unfolding smsFrom
 sms-back r = ap (λ (a : ListAnswer). record { answer = a; count = r .count; items = r .items }) (list-back (r .answer))
 
 pub sms-unique : (r s : SyncManagers) (x : Back SyncManager) → backSms r ≡ x → backSms s ≡ x → r ≡ s
-sms-unique r s x p q = sym (sms-back r) ∙ ap smsFrom (p ∙ sym q) ∙ sms-back s
+sms-unique = refusals.unique backSms smsFrom sms-back
 
 -- ---- FMMUs
 
-unfoldable pub fmmusFrom : Back ℕ → FmmuList
+unfoldable fmmusFrom : Back ℕ → FmmuList
 fmmusFrom b = record { answer = listOf (b .says); count = b .count; items = b .places }
 
-pub fmmus-back : (r : FmmuList) → fmmusFrom (backFmmus r) ≡ r
+fmmus-back : (r : FmmuList) → fmmusFrom (backFmmus r) ≡ r
 unfolding fmmusFrom
 fmmus-back r = ap (λ (a : ListAnswer). record { answer = a; count = r .count; items = r .items }) (list-back (r .answer))
 
 pub fmmus-unique : (r s : FmmuList) (x : Back ℕ) → backFmmus r ≡ x → backFmmus s ≡ x → r ≡ s
-fmmus-unique r s x p q = sym (fmmus-back r) ∙ ap fmmusFrom (p ∙ sym q) ∙ fmmus-back s
+fmmus-unique = refusals.unique backFmmus fmmusFrom fmmus-back
 
 -- ---- PDOs
 
-unfoldable pub pdosFrom : Back Pdo → PdoList
+unfoldable pdosFrom : Back Pdo → PdoList
 pdosFrom b = record { answer = listOf (b .says); count = b .count; items = b .places }
 
-pub pdos-back : (r : PdoList) → pdosFrom (backPdos r) ≡ r
+pdos-back : (r : PdoList) → pdosFrom (backPdos r) ≡ r
 unfolding pdosFrom
 pdos-back r = ap (λ (a : ListAnswer). record { answer = a; count = r .count; items = r .items }) (list-back (r .answer))
 
 pub pdos-unique : (r s : PdoList) (x : Back Pdo) → backPdos r ≡ x → backPdos s ≡ x → r ≡ s
-pdos-unique r s x p q = sym (pdos-back r) ∙ ap pdosFrom (p ∙ sym q) ∙ pdos-back s
+pdos-unique = refusals.unique backPdos pdosFrom pdos-back

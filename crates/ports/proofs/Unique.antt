@@ -1,11 +1,11 @@
 -- An answer is known from what it says, by an inverse: so a promise on what is said allows one answer.
 use Prim.Native.Nat.{ℕ}
-use mathlib.Core.Path.{_≡_, refl, sym, ap, _∙_}
+use mathlib.Core.Path.{_≡_, refl, ap}
 use lib.Dec.{eqb}
 use lib.ListN.{getD}
 use Rattle.refusal.specs.Said.{Said, gives, absent, refuses, pick}
 use Rattle.refusal.specs.declared.Refusal.the-variants.{NoPort}
-use Rattle.refusal.proofs.Unique.{refusalOf, back}
+use Rattle.refusal.proofs.Unique.{unique, refusalOf, back}
 use Rattle.ports.specs.Answers.{saidPort, saidTime, countOf, saidTopology, saidText}
 use Rattle.ports.specs.declared.Topology.{Topology}
 use Rattle.ports.specs.declared.Topology.the-variants.{LineEnd, Passthrough, Fork, Cross}
@@ -32,7 +32,7 @@ port-back port.Absent = refl
 port-back (port.No x) = ap port.No (back x)
 
 pub port-unique : (a b : PortAnswer) (s : Said) → saidPort a ≡ s → saidPort b ≡ s → a ≡ b
-port-unique a b s p q = sym (port-back a) ∙ ap portOf (p ∙ sym q) ∙ port-back b
+port-unique = unique saidPort portOf port-back
 
 -- ---- a time
 
@@ -48,7 +48,7 @@ time-back time.Absent = refl
 time-back (time.No x) = ap time.No (back x)
 
 pub time-unique : (a b : TimeAnswer) (s : Said) → saidTime a ≡ s → saidTime b ≡ s → a ≡ b
-time-unique a b s p q = sym (time-back a) ∙ ap timeOf (p ∙ sym q) ∙ time-back b
+time-unique = unique saidTime timeOf time-back
 
 -- ---- a topology
 
@@ -73,7 +73,7 @@ topology-back (topology.Is x) = ap topology.Is (count-back x)
 topology-back (topology.No x) = ap topology.No (back x)
 
 pub topology-unique : (a b : TopologyAnswer) (s : Said) → saidTopology a ≡ s → saidTopology b ≡ s → a ≡ b
-topology-unique a b s p q = sym (topology-back a) ∙ ap topologyOf (p ∙ sym q) ∙ topology-back b
+topology-unique = unique saidTopology topologyOf topology-back
 
 -- ---- a text
 
@@ -88,4 +88,4 @@ text-back (text.Written n) = refl
 text-back (text.No x) = ap text.No (back x)
 
 pub text-unique : (a b : TextAnswer) (s : Said) → saidText a ≡ s → saidText b ≡ s → a ≡ b
-text-unique a b s p q = sym (text-back a) ∙ ap textAnswerOf (p ∙ sym q) ∙ text-back b
+text-unique = unique saidText textAnswerOf text-back

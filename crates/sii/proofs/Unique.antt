@@ -1,12 +1,12 @@
 -- An answer is known from what it says, by an inverse: so each promise on what is said allows one answer.
 use Prim.Native.Nat.{ℕ}
-use mathlib.Core.Path.{_≡_, refl, sym, ap, _∙_}
+use mathlib.Core.Path.{_≡_, refl, ap}
 use mathlib.Core.Bool.{Bool, true, false}
 use mathlib.Core.List.{List, []}
 use lib.ListN.{getD}
 use lib.Dec.{eqb}
 use Rattle.refusal.specs.Said.{Said, gives, absent, refuses}
-use Rattle.refusal.proofs.Unique.{refusalOf, back}
+use Rattle.refusal.proofs.Unique.{unique, refusalOf, back}
 use Rattle.sii.specs.General.{bit, generalValues}
 use Rattle.sii.specs.Answers.{saidAlias, saidSet, saidSize, saidIdentity, saidMailbox, saidFound, saidGeneral}
 use Rattle.sii.specs.declared.SiiGeneral.{SiiGeneral}
@@ -38,7 +38,7 @@ alias-back (alias.Alias n) = refl
 alias-back (alias.No x) = ap alias.No (back x)
 
 pub alias-unique : (a b : AliasAnswer) (s : Said) → saidAlias a ≡ s → saidAlias b ≡ s → a ≡ b
-alias-unique a b s p q = sym (alias-back a) ∙ ap aliasOf (p ∙ sym q) ∙ alias-back b
+alias-unique = unique saidAlias aliasOf alias-back
 
 unfoldable setOf : Said → AliasSet
 setOf (gives l) = set.Done
@@ -51,7 +51,7 @@ set-back set.Done = refl
 set-back (set.No x) = ap set.No (back x)
 
 pub set-unique : (a b : AliasSet) (s : Said) → saidSet a ≡ s → saidSet b ≡ s → a ≡ b
-set-unique a b s p q = sym (set-back a) ∙ ap setOf (p ∙ sym q) ∙ set-back b
+set-unique = unique saidSet setOf set-back
 
 unfoldable sizeOf : Said → SizeAnswer
 sizeOf (gives l) = size.Bytes (getD l 0 0)
@@ -64,7 +64,7 @@ size-back (size.Bytes n) = refl
 size-back (size.No x) = ap size.No (back x)
 
 pub size-unique : (a b : SizeAnswer) (s : Said) → saidSize a ≡ s → saidSize b ≡ s → a ≡ b
-size-unique a b s p q = sym (size-back a) ∙ ap sizeOf (p ∙ sym q) ∙ size-back b
+size-unique = unique saidSize sizeOf size-back
 
 unfoldable identityFrom : Said → IdentityAnswer
 identityFrom (gives l) =
@@ -78,7 +78,7 @@ identity-back (identity.Is i) = refl
 identity-back (identity.No x) = ap identity.No (back x)
 
 pub identity-unique : (a b : IdentityAnswer) (s : Said) → saidIdentity a ≡ s → saidIdentity b ≡ s → a ≡ b
-identity-unique a b s p q = sym (identity-back a) ∙ ap identityFrom (p ∙ sym q) ∙ identity-back b
+identity-unique = unique saidIdentity identityFrom identity-back
 
 unfoldable mailboxFrom : Said → MailboxAnswer
 mailboxFrom (gives l) =
@@ -98,7 +98,7 @@ mailbox-back (mailbox.Is m) = refl
 mailbox-back (mailbox.No x) = ap mailbox.No (back x)
 
 pub mailbox-unique : (a b : MailboxAnswer) (s : Said) → saidMailbox a ≡ s → saidMailbox b ≡ s → a ≡ b
-mailbox-unique a b s p q = sym (mailbox-back a) ∙ ap mailboxFrom (p ∙ sym q) ∙ mailbox-back b
+mailbox-unique = unique saidMailbox mailboxFrom mailbox-back
 
 -- ---- General
 
@@ -140,7 +140,7 @@ found-back found.Absent = refl
 found-back (found.No x) = ap found.No (back x)
 
 pub found-unique : (a b : GeneralFound) (s : Said) → saidFound a ≡ s → saidFound b ≡ s → a ≡ b
-found-unique a b s p q = sym (found-back a) ∙ ap foundOf (p ∙ sym q) ∙ found-back b
+found-unique = unique saidFound foundOf found-back
 
 unfoldable answerOf : Said → GeneralAnswer
 answerOf (gives l) = general.Is (generalFrom l)
@@ -153,4 +153,4 @@ general-back (general.Is g) = ap general.Is (values-back g)
 general-back (general.No x) = ap general.No (back x)
 
 pub general-unique : (a b : GeneralAnswer) (s : Said) → saidGeneral a ≡ s → saidGeneral b ≡ s → a ≡ b
-general-unique a b s p q = sym (general-back a) ∙ ap answerOf (p ∙ sym q) ∙ general-back b
+general-unique = unique saidGeneral answerOf general-back

@@ -1,8 +1,8 @@
 -- An answer is known from what it says, by an inverse: so the promise on what is said allows one answer.
-use mathlib.Core.Path.{_≡_, refl, sym, ap, _∙_}
+use mathlib.Core.Path.{_≡_, refl, ap}
 use lib.ListN.{getD}
 use Rattle.refusal.specs.Said.{Said, gives, absent, refuses}
-use Rattle.refusal.proofs.Unique.{refusalOf, back}
+use Rattle.refusal.proofs.Unique.{unique, refusalOf, back}
 use Rattle.strings.specs.Answers.{saidString}
 use Rattle.strings.specs.declared.StringAnswer.{StringAnswer}
 use Rattle.strings.specs.declared.StringAnswer.the-variants as string
@@ -19,4 +19,4 @@ string-back string.Absent = refl
 string-back (string.No x) = ap string.No (back x)
 
 pub string-unique : (a b : StringAnswer) (s : Said) → saidString a ≡ s → saidString b ≡ s → a ≡ b
-string-unique a b s p q = sym (string-back a) ∙ ap stringOf (p ∙ sym q) ∙ string-back b
+string-unique = unique saidString stringOf string-back
