@@ -1,0 +1,5 @@
+// The calls for programs in C and Rust: each is a core call, its answer told as a code and a row of numbers.
+// An export asks nothing of its caller but slices that are there. bindings/ has the header and the Rust crate over it.
+pub mod read_out;
+mod row;
+pub mod text;
