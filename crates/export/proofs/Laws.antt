@@ -3,10 +3,11 @@ use Prim.Native.Nat.{ℕ}
 use mathlib.Core.Path.{_≡_, refl, sym, ap, _∙_}
 use lib.ListN.{length}
 use lib.Seq.{take-nil}
+use mathlib.Core.Bool.{Bool, true, false}
 use mathlib.Core.List.{List, [], _∷_}
 use types.Run.{OneOf, miss}
 use denote.Enum.Declared.{tagOf}
-use Rattle.refusal.specs.Said.{Said, absent, numberOf, valuesOf, saidOf}
+use Rattle.refusal.specs.Said.{Said, absent, numberOf, valuesOf, saidOf, pick}
 use Rattle.refusal.specs.declared.Refusal.{Refusal}
 use Rattle.refusal.proofs.Refusal.{the-type}
 use Rattle.refusal.specs.declared.Refusal.the-variants.{
@@ -25,9 +26,11 @@ use Rattle.refusal.specs.declared.Refusal.the-variants.{
   NoRoom,
   BadArgument,
 }
+use Rattle.sii.specs.General.{bit}
+use Rattle.created_frame.specs.declared.Builder.{Builder}
 use Rattle.wire.specs.Bytes.{laid}
 use Rattle.wire.proofs.Laws.{overlay-none}
-use Rattle.export.specs.Told.{codeOf, rowOver}
+use Rattle.export.specs.Told.{codeOf, rowOver, stateOver, bytesOver}
 
 -- what says the same is told the same
 pub told : (s t : Said) (r : ℕ) (before after : List ℕ) → s ≡ t → (r ≡ codeOf s) × (after ≡ rowOver before s)
@@ -39,15 +42,30 @@ pub told-beside : (X : Type 0) (s t : Said) (r : ℕ) (before after : List ℕ) 
     → (r ≡ codeOf t) × (X × (after ≡ rowOver before t))
 told-beside X s t r before after x e h = (h .0 ∙ ap codeOf e, (x, h .1 ∙ ap (rowOver before) e))
 
+-- .. and with the builder's state
+pub told-push : (X : Type 0) (s t : Said) (b d : Builder) (i j r : ℕ) (before after : List ℕ) → X → s ≡ t → (b ≡ d) × (i ≡ j)
+    → (r ≡ codeOf s) × (after ≡ stateOver before b i s) → (r ≡ codeOf t) × (X × (after ≡ stateOver before d j t))
+told-push X s t b d i j r before after x e f h = (h .0 ∙ ap codeOf e, (x, rw (← e, ← f .0, ← f .1) (h .1)))
+
+-- bytes that are lent
+pub told-bytes : (s t : Said) (r : ℕ) (xs ys before after : List ℕ) → s ≡ t → xs ≡ ys → (r ≡ codeOf s) × (after ≡ bytesOver before s xs)
+    → (r ≡ codeOf t) × (after ≡ bytesOver before t ys)
+told-bytes s t r xs ys before after e f h = (h .0 ∙ ap codeOf e, rw (← e, ← f) (h .1))
+
 -- no values leave the row as it was
-pub laid-none : (row : List ℕ) → row ≡ laid row 0 []
+pub laid-none : (row : List ℕ) (at : ℕ) → row ≡ laid row at []
 unfolding laid
-laid-none row = rw take-nil (sym (overlay-none row 0))
+laid-none row at = rw take-nil (sym (overlay-none row at))
 
 -- absent: the row stays
 pub told-absent : (t : Said) (row : List ℕ) → absent ≡ t → (255 ≡ codeOf t) × (row ≡ rowOver row t)
 unfolding rowOver
-told-absent t row e = told absent t 255 row row e (refl, laid-none row)
+told-absent t row e = told absent t 255 row row e (refl, laid-none row 0)
+
+-- a test as a number, in either crate's words
+pub bit-pick : (t : Bool) → bit t ≡ pick t 1 0
+bit-pick true = refl
+bit-pick false = refl
 
 -- ---- a refusal
 
@@ -75,4 +93,4 @@ no-values BadArgument k = refl
 -- .. so the row stays
 pub row-stays : (x : Refusal) → OneOf others (tagOf the-type x) → (row : List ℕ) → row ≡ rowOver row (saidOf x)
 unfolding rowOver
-row-stays x k row = rw (no-values x k) (laid-none row)
+row-stays x k row = rw (no-values x k) (laid-none row 0)

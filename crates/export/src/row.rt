@@ -74,6 +74,18 @@ pub(crate) fn wide16(x: u16) -> u64
     x as u64
 }
 
+pub(crate) fn wide32(x: u32) -> u64
+    ensures { λ r. ⌜ r ≡ x ⌝ }
+{
+    x as u64
+}
+
+pub(crate) fn wide(x: usize) -> u64
+    ensures { λ r. ⌜ r ≡ x ⌝ }
+{
+    x as u64
+}
+
 // A test as a number of a row: 1 where it holds.
 pub(crate) fn flag(b: bool) -> u64
     ensures { λ r. ⌜ r ≡ bit b ⌝ }
