@@ -5,6 +5,7 @@
 #include <stdio.h>
 #include <stdlib.h>
 #include <string.h>
+#include <sys/types.h>
 
 static unsigned long checks, failures;
 
@@ -467,7 +468,9 @@ static void replay(const char *requests, const char *answers) {
         exit(2);
     }
     text = malloc(1 << 20);
-    for (unsigned long line = 1; getline(&request, &request_room, in) > 0 && getline(&want, &want_room, out) > 0; line++) {
+    ssize_t got;
+    for (unsigned long line = 1; (got = getline(&request, &request_room, in)) > 0 && getline(&want, &want_room, out) > 0; line++) {
+        if (strlen(request) != (size_t)got) continue; /* a zero byte: no request */
         request[strcspn(request, "\n")] = 0;
         want[strcspn(want, "\n")] = 0;
         struct kind *k = answer(request);
