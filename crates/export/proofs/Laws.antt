@@ -43,9 +43,9 @@ pub told-beside : (X : Type 0) (s t : Said) (r : ℕ) (before after : List ℕ) 
 told-beside X s t r before after x e h = (h .0 ∙ ap codeOf e, (x, h .1 ∙ ap (rowOver before) e))
 
 -- .. and with the builder's state
-pub told-push : (X : Type 0) (s t : Said) (b d : Builder) (i j r : ℕ) (before after : List ℕ) → X → s ≡ t → (b ≡ d) × (i ≡ j)
-    → (r ≡ codeOf s) × (after ≡ stateOver before b i s) → (r ≡ codeOf t) × (X × (after ≡ stateOver before d j t))
-told-push X s t b d i j r before after x e f h = (h .0 ∙ ap codeOf e, (x, rw (← e, ← f .0, ← f .1) (h .1)))
+pub state-told : (s t : Said) (b d : Builder) (i j : ℕ) (before after : List ℕ) → s ≡ t → (b ≡ d) × (i ≡ j) → after ≡ stateOver before b i s
+    → after ≡ stateOver before d j t
+state-told s t b d i j before after e f h = rw (← e, ← f .0, ← f .1) h
 
 -- bytes that are lent
 pub told-bytes : (s t : Said) (r : ℕ) (xs ys before after : List ℕ) → s ≡ t → xs ≡ ys → (r ≡ codeOf s) × (after ≡ bytesOver before s xs)

@@ -5,20 +5,23 @@ use crate::row::flag;
 use crate::row::given;
 use crate::row::put;
 use crate::row::refused;
+use crate::row::wide;
 use crate::row::wide8;
 use created_frame::Builder;
 use created_frame::CanPush;
 use created_frame::Opened;
+use created_frame::PduResponseHandle;
 use created_frame::Push;
 use created_frame::Pushed;
 use created_frame::Rest;
 use created_frame::RestPush;
 use pdu::HeaderAnswer;
 ghost use mathlib.Core.Path.{_≡_};
+ghost use mathlib.Core.List.{[], _∷_};
 ghost use lib.ListN.{length};
 ghost use Rattle.pdu.specs.Answers.{saidHeader, headerSaid, headerLeft};
 ghost use Rattle.created_frame.specs.Frame.{opened, afterOpen, pushed, pushedBuilder, pushedNext, afterPush, restPushed, restBuilder, restNext, afterRest, canPush};
-ghost use Rattle.created_frame.specs.Answers.{saidOpened, saidPushed, saidRest};
+ghost use Rattle.created_frame.specs.Answers.{handleValues, saidOpened, saidPushed, saidRest};
 ghost use Rattle.export.specs.Told.{codeOf, rowOver, stateOf, stateOver, bytesOver};
 
 // Zeroes the area; the row takes the state of an empty one: used, count, last.
@@ -78,28 +81,42 @@ fn of_push(out: &mut [u64], r: Push) -> u8
 {
     let answer = r.answer;
     let b = r.builder;
-    let next = wide8(r.next);
+    let next = r.next;
     match answer {
         Pushed::Done(h) => {
-            let xs = [
-                b.used as u64,
-                b.count as u64,
-                b.last as u64,
-                next,
-                h.start as u64,
-                h.size as u64,
-                wide8(h.index),
-                wide8(h.command),
-            ];
+            let xs = pushed_row(b, next, h);
             put(out, 0, &xs);
             GIVES
         }
         Pushed::No(x) => {
-            let xs = [b.used as u64, b.count as u64, b.last as u64, next];
+            let xs = kept_row(b, next);
             put(out, 0, &xs);
             refusal::number(x)
         }
     }
+}
+
+// The state and the next index.
+fn kept_row(b: Builder, next: u8) -> [u64; 4]
+    ensures { λ r. ⌜ r ≡ b .used ∷ b .count ∷ b .last ∷ next ∷ [] ⌝ }
+{
+    [wide(b.used), wide(b.count), wide(b.last), wide8(next)]
+}
+
+// .. and the PDU behind them.
+fn pushed_row(b: Builder, next: u8, h: PduResponseHandle) -> [u64; 8]
+    ensures { λ r. ⌜ r ≡ b .used ∷ b .count ∷ b .last ∷ next ∷ handleValues h ⌝ }
+{
+    [
+        wide(b.used),
+        wide(b.count),
+        wide(b.last),
+        wide8(next),
+        wide(h.start),
+        wide(h.size),
+        wide8(h.index),
+        wide8(h.command),
+    ]
 }
 
 // Pushes a PDU of the first of these bytes, as many as have room. The row takes the state after it and the next index,
@@ -134,34 +151,41 @@ fn of_rest(out: &mut [u64], r: RestPush) -> u8
 {
     let answer = r.answer;
     let b = r.builder;
-    let next = wide8(r.next);
+    let next = r.next;
     match answer {
         Rest::Done { taken, pdu } => {
-            let xs = [
-                b.used as u64,
-                b.count as u64,
-                b.last as u64,
-                next,
-                taken as u64,
-                pdu.start as u64,
-                pdu.size as u64,
-                wide8(pdu.index),
-                wide8(pdu.command),
-            ];
+            let xs = taken_row(b, next, taken, pdu);
             put(out, 0, &xs);
             GIVES
         }
         Rest::Absent => {
-            let xs = [b.used as u64, b.count as u64, b.last as u64, next];
+            let xs = kept_row(b, next);
             put(out, 0, &xs);
             ABSENT
         }
         Rest::No(x) => {
-            let xs = [b.used as u64, b.count as u64, b.last as u64, next];
+            let xs = kept_row(b, next);
             put(out, 0, &xs);
             refusal::number(x)
         }
     }
+}
+
+// The state and the next index, how many bytes were taken, and the PDU.
+fn taken_row(b: Builder, next: u8, taken: usize, h: PduResponseHandle) -> [u64; 9]
+    ensures { λ r. ⌜ r ≡ b .used ∷ b .count ∷ b .last ∷ next ∷ taken ∷ handleValues h ⌝ }
+{
+    [
+        wide(b.used),
+        wide(b.count),
+        wide(b.last),
+        wide8(next),
+        wide(taken),
+        wide(h.start),
+        wide(h.size),
+        wide8(h.index),
+        wide8(h.command),
+    ]
 }
 
 // Whether a PDU of len payload bytes has room: 1 or 0.

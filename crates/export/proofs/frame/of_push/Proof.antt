@@ -1,21 +1,16 @@
 -- the row takes the state and the next index, and what is given behind them.
-use mathlib.Core.Path.{refl}
+use mathlib.Core.Path.{refl, ap, _∙_}
+use Rattle.wire.specs.Bytes.{laid}
 use Rattle.export.specs.Told.{stateOver}
 use borrow.Author.Needs.{needs}
 use Rattle.export.proofs.frame.of_push.Statement.{statement}
 use Rattle.export.proofs.frame.of_push.Tie as tie
 
-wide8-requires : tie.Need-wide8-requires
-wide8-requires c κs = search needs
-
 enum-known-answer : tie.Need-enum-known-answer
 enum-known-answer c = search needs
 
-wide8-requires-2 : tie.Need-wide8-requires-2
-wide8-requires-2 c κs = search needs
-
-wide8-requires-3 : tie.Need-wide8-requires-3
-wide8-requires-3 c κs = search needs
+pushed-row-requires : tie.Need-pushed-row-requires
+pushed-row-requires c κs = search needs
 
 slice-aggregate-put : tie.Need-slice-aggregate-put
 slice-aggregate-put c = search needs
@@ -25,6 +20,9 @@ put-requires c κs = search needs
 
 enum-known-answer-2 : tie.Need-enum-known-answer-2
 enum-known-answer-2 c = search needs
+
+kept-row-requires : tie.Need-kept-row-requires
+kept-row-requires c κs = search needs
 
 slice-aggregate-put-2 : tie.Need-slice-aggregate-put-2
 slice-aggregate-put-2 c = search needs
@@ -40,26 +38,25 @@ same-length c = search needs
 
 returns : tie.Need-returns
 unfolding stateOver
-returns c = rw (c .before .before .before .before .before .before .before .before .answer .given .1, ← c .before .before .before .before .before .before .before .before .before .before .wide8 .ensures, ← c .before .before .before .before .before .before .wide82 .ensures, ← c .before .before .before .before .before .wide83 .ensures) (refl, c .before .before .put .ensures)
+returns c = rw (c .before .before .before .before .before .before .before .answer .given .1) (refl, c .before .before .put .ensures ∙ ap (laid _ 0) (c .before .before .before .before .before .pushed-row .ensures))
 
 same-length-2 : tie.Need-same-length-2
 same-length-2 c = search needs
 
 returns-2 : tie.Need-returns-2
 unfolding stateOver
-returns-2 c = rw (c .before .before .before .before .before .before .before .answer2 .given .1, ← c .before .before .before .before .before .before .before .before .before .wide8 .ensures) (c .number .ensures, c .before .before .before .put2 .ensures)
+returns-2 c = rw (c .before .before .before .before .before .before .before .before .answer2 .given .1) (c .number .ensures, c .before .before .before .put2 .ensures ∙ ap (laid _ 0) (c .before .before .before .before .before .before .kept-row .ensures))
 
 pub of-push-spec : {M : Type 1} → statement M
 of-push-spec =
     tie.close
     (tie.spec
-    wide8-requires
     enum-known-answer
-    wide8-requires-2
-    wide8-requires-3
+    pushed-row-requires
     slice-aggregate-put
     put-requires
     enum-known-answer-2
+    kept-row-requires
     slice-aggregate-put-2
     put-requires-2
     number-requires

@@ -1,21 +1,16 @@
 -- the row takes the state and the next index, and what is given behind them.
-use mathlib.Core.Path.{refl}
+use mathlib.Core.Path.{refl, ap, _∙_}
+use Rattle.wire.specs.Bytes.{laid}
 use Rattle.export.specs.Told.{stateOver}
 use borrow.Author.Needs.{needs}
 use Rattle.export.proofs.frame.of_rest.Statement.{statement}
 use Rattle.export.proofs.frame.of_rest.Tie as tie
 
-wide8-requires : tie.Need-wide8-requires
-wide8-requires c κs = search needs
-
 enum-known-answer : tie.Need-enum-known-answer
 enum-known-answer c = search needs
 
-wide8-requires-2 : tie.Need-wide8-requires-2
-wide8-requires-2 c κs = search needs
-
-wide8-requires-3 : tie.Need-wide8-requires-3
-wide8-requires-3 c κs = search needs
+taken-row-requires : tie.Need-taken-row-requires
+taken-row-requires c κs = search needs
 
 slice-aggregate-put : tie.Need-slice-aggregate-put
 slice-aggregate-put c = search needs
@@ -26,6 +21,9 @@ put-requires c κs = search needs
 enum-told : tie.Need-enum-told
 enum-told c = search needs
 
+kept-row-requires : tie.Need-kept-row-requires
+kept-row-requires c κs = search needs
+
 slice-aggregate-put-2 : tie.Need-slice-aggregate-put-2
 slice-aggregate-put-2 c = search needs
 
@@ -34,6 +32,9 @@ put-requires-2 c κs = search needs
 
 enum-known-answer-2 : tie.Need-enum-known-answer-2
 enum-known-answer-2 c = search needs
+
+kept-row-requires-2 : tie.Need-kept-row-requires-2
+kept-row-requires-2 c κs = search needs
 
 slice-aggregate-put-3 : tie.Need-slice-aggregate-put-3
 slice-aggregate-put-3 c = search needs
@@ -49,36 +50,36 @@ same-length c = search needs
 
 returns : tie.Need-returns
 unfolding stateOver
-returns c = rw (c .before .before .before .before .before .before .before .before .answer .given .1, ← c .before .before .before .before .before .before .before .before .before .before .wide8 .ensures, ← c .before .before .before .before .before .before .wide82 .ensures, ← c .before .before .before .before .before .wide83 .ensures) (refl, c .before .before .put .ensures)
+returns c = rw (c .before .before .before .before .before .before .before .answer .given .1) (refl, c .before .before .put .ensures ∙ ap (laid _ 0) (c .before .before .before .before .before .taken-row .ensures))
 
 same-length-2 : tie.Need-same-length-2
 same-length-2 c = search needs
 
 returns-2 : tie.Need-returns-2
 unfolding stateOver
-returns-2 c = rw (c .before .before .before .before .before .enum-told .given .1, ← c .before .before .before .before .before .before .before .wide8 .ensures) (refl, c .before .before .put2 .ensures)
+returns-2 c = rw (c .before .before .before .before .before .before .enum-told .given .1) (refl, c .before .before .put2 .ensures ∙ ap (laid _ 0) (c .before .before .before .before .before .kept-row .ensures))
 
 same-length-3 : tie.Need-same-length-3
 same-length-3 c = search needs
 
 returns-3 : tie.Need-returns-3
 unfolding stateOver
-returns-3 c = rw (c .before .before .before .before .before .before .before .answer2 .given .1, ← c .before .before .before .before .before .before .before .before .before .wide8 .ensures) (c .number .ensures, c .before .before .before .put3 .ensures)
+returns-3 c = rw (c .before .before .before .before .before .before .before .before .answer2 .given .1) (c .number .ensures, c .before .before .before .put3 .ensures ∙ ap (laid _ 0) (c .before .before .before .before .before .before .kept-row2 .ensures))
 
 pub of-rest-spec : {M : Type 1} → statement M
 of-rest-spec =
     tie.close
     (tie.spec
-    wide8-requires
     enum-known-answer
-    wide8-requires-2
-    wide8-requires-3
+    taken-row-requires
     slice-aggregate-put
     put-requires
     enum-told
+    kept-row-requires
     slice-aggregate-put-2
     put-requires-2
     enum-known-answer-2
+    kept-row-requires-2
     slice-aggregate-put-3
     put-requires-3
     number-requires
