@@ -25,7 +25,12 @@ fn main() -> Result<(), Refusal> {
     let identity = eeprom.identity()?;
     let mut room = [0u8; 32];
     let name = eeprom.device_name(&mut room)?.unwrap_or(b"?");
-    println!("{} of vendor {:#x}, alias {:#06x}", String::from_utf8_lossy(name), identity.vendor_id, eeprom.station_alias()?);
+    println!(
+        "{} of vendor {:#x}, alias {:#06x}",
+        String::from_utf8_lossy(name),
+        identity.vendor_id,
+        eeprom.station_alias()?
+    );
 
     // A frame of one write, and whatever room is left of one read.
     let mut area = [0u8; 40];

@@ -85,7 +85,13 @@ impl<'a> CreatedFrame<'a> {
     }
 
     /// Pushes a PDU of these bytes; its payload is as long as the larger of their count and `len_override`.
-    pub fn push_pdu(&mut self, command: u8, address: u32, data: &[u8], len_override: Option<u16>) -> Result<PduResponseHandle, Refusal> {
+    pub fn push_pdu(
+        &mut self,
+        command: u8,
+        address: u32,
+        data: &[u8],
+        len_override: Option<u16>,
+    ) -> Result<PduResponseHandle, Refusal> {
         let mut row = [0; 8];
         let over = usize::from(len_override.unwrap_or(0));
         let code = sys::push_pdu(self.area, self.builder.numbers(), self.next, command, address, data, over, &mut row);
@@ -95,9 +101,15 @@ impl<'a> CreatedFrame<'a> {
     }
 
     /// Pushes a PDU of as many of these bytes as have room, and says how many; `None` where there are none, or no room.
-    pub fn push_pdu_slice_rest(&mut self, command: u8, address: u32, bytes: &[u8]) -> Result<Option<(usize, PduResponseHandle)>, Refusal> {
+    pub fn push_pdu_slice_rest(
+        &mut self,
+        command: u8,
+        address: u32,
+        bytes: &[u8],
+    ) -> Result<Option<(usize, PduResponseHandle)>, Refusal> {
         let mut row = [0; 9];
-        let code = sys::push_pdu_slice_rest(self.area, self.builder.numbers(), self.next, command, address, bytes, &mut row);
+        let code =
+            sys::push_pdu_slice_rest(self.area, self.builder.numbers(), self.next, command, address, bytes, &mut row);
         self.take(&row);
         Ok(found(code, &row)?.map(|()| (row[4] as usize, PduResponseHandle::of(&row[5..]))))
     }

@@ -24,6 +24,9 @@ mod sii;
 #[allow(missing_docs)]
 mod sys;
 
-pub use frame::{frame_header, read_frame, spread, Builder, CreatedFrame, PduFields, PduResponseHandle, Spreading, PDU_OVERHEAD_BYTES};
+pub use frame::{
+    frame_header, read_frame, spread, Builder, CreatedFrame, PduFields, PduResponseHandle, Spreading,
+    PDU_OVERHEAD_BYTES,
+};
 pub use refusal::Refusal;
 pub use sii::{crc, set_station_alias, CategoryType, DefaultMailbox, SiiGeneral, SubDeviceEeprom, SubDeviceIdentity};

@@ -90,7 +90,9 @@ impl Refusal {
 impl fmt::Display for Refusal {
     fn fmt(&self, f: &mut fmt::Formatter<'_>) -> fmt::Result {
         match self {
-            Refusal::StringTooLong { room, stored } => write!(f, "refusal 4: a string of {stored} bytes for a room of {room}"),
+            Refusal::StringTooLong { room, stored } => {
+                write!(f, "refusal 4: a string of {stored} bytes for a room of {room}")
+            }
             other => write!(f, "refusal {}: {other:?}", other.number()),
         }
     }

@@ -138,17 +138,34 @@ pub fn general(image: &[u8], out: &mut [u64]) -> u8 {
 
 pub fn find_string(image: &[u8], index: u8, room: &mut [u8], out: &mut [u64]) -> u8 {
     unsafe {
-        c::morel_find_string(image.as_ptr(), image.len(), index, room.as_mut_ptr(), room.len(), out.as_mut_ptr(), out.len())
+        c::morel_find_string(
+            image.as_ptr(),
+            image.len(),
+            index,
+            room.as_mut_ptr(),
+            room.len(),
+            out.as_mut_ptr(),
+            out.len(),
+        )
     }
 }
 
 pub fn device_name(image: &[u8], room: &mut [u8], out: &mut [u64]) -> u8 {
-    unsafe { c::morel_device_name(image.as_ptr(), image.len(), room.as_mut_ptr(), room.len(), out.as_mut_ptr(), out.len()) }
+    unsafe {
+        c::morel_device_name(image.as_ptr(), image.len(), room.as_mut_ptr(), room.len(), out.as_mut_ptr(), out.len())
+    }
 }
 
 pub fn device_description(image: &[u8], room: &mut [u8], out: &mut [u64]) -> u8 {
     unsafe {
-        c::morel_device_description(image.as_ptr(), image.len(), room.as_mut_ptr(), room.len(), out.as_mut_ptr(), out.len())
+        c::morel_device_description(
+            image.as_ptr(),
+            image.len(),
+            room.as_mut_ptr(),
+            room.len(),
+            out.as_mut_ptr(),
+            out.len(),
+        )
     }
 }
 

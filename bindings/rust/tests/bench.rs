@@ -30,7 +30,8 @@ fn fixed_area() {
     assert_eq!(eeprom.station_alias(), Ok(0x3412));
     assert_eq!(SubDeviceEeprom::new(&image[..9]).station_alias(), Ok(0xFF12));
     assert_eq!(long.station_alias(), Err(Refusal::BadArgument));
-    let identity = SubDeviceIdentity { vendor_id: 2, product_id: 0x072C_3052, revision: 0x0012_0000, serial: 0x1234_5678 };
+    let identity =
+        SubDeviceIdentity { vendor_id: 2, product_id: 0x072C_3052, revision: 0x0012_0000, serial: 0x1234_5678 };
     assert_eq!(eeprom.identity(), Ok(identity));
     assert_eq!(long.identity(), Err(Refusal::BadArgument));
     let mailbox = DefaultMailbox {
@@ -102,16 +103,22 @@ fn strings() {
 #[test]
 fn frames() {
     let want = [
-        0x1C, 0x10, 0x07, 0x00, 0x00, 0x00, 0x30, 0x01, 0x02, 0x80, 0x00, 0x00, 0x00, 0x00, 0x00, 0x00, 0x05, 0x01, 0x01, 0x10, 0x20, 0x01, 0x02, 0x00, 0x00,
-        0x00, 0x08, 0x00, 0x00, 0x00,
+        0x1C, 0x10, 0x07, 0x00, 0x00, 0x00, 0x30, 0x01, 0x02, 0x80, 0x00, 0x00, 0x00, 0x00, 0x00, 0x00, 0x05, 0x01,
+        0x01, 0x10, 0x20, 0x01, 0x02, 0x00, 0x00, 0x00, 0x08, 0x00, 0x00, 0x00,
     ];
     let mut area = [0xEEu8; 28];
     let mut frame = CreatedFrame::open(&mut area, 0).unwrap();
-    assert_eq!(frame.push_pdu(7, 0x0130_0000, &[0, 0], None), Ok(PduResponseHandle { start: 0, size: 14, index: 0, command: 7 }));
+    assert_eq!(
+        frame.push_pdu(7, 0x0130_0000, &[0, 0], None),
+        Ok(PduResponseHandle { start: 0, size: 14, index: 0, command: 7 })
+    );
     assert_eq!(frame.can_push_pdu_payload(2), Ok(true));
     assert_eq!(frame.can_push_pdu_payload(3), Ok(false));
     assert_eq!(frame.can_push_pdu_payload(65_536), Err(Refusal::BadArgument));
-    assert_eq!(frame.push_pdu(5, 0x0120_1001, &[8, 0], None), Ok(PduResponseHandle { start: 14, size: 14, index: 1, command: 5 }));
+    assert_eq!(
+        frame.push_pdu(5, 0x0120_1001, &[8, 0], None),
+        Ok(PduResponseHandle { start: 14, size: 14, index: 1, command: 5 })
+    );
     let bytes = [&frame.frame_header().unwrap()[..], frame.pdus()].concat();
     assert_eq!(bytes, want);
     assert_eq!(frame.push_pdu(5, 0, &[], None), Err(Refusal::TooLong));
@@ -158,7 +165,9 @@ fn overrides_and_resumed_states() {
 #[test]
 fn spreading() {
     let mut areas = [0u8; 200];
-    let ends = |areas: &mut [u8], n: usize| spread(areas, 100, Builder::default(), 0, 12, 0, &[0u8; 177][..n]).map(|run| run.states.len());
+    let ends = |areas: &mut [u8], n: usize| {
+        spread(areas, 100, Builder::default(), 0, 12, 0, &[0u8; 177][..n]).map(|run| run.states.len())
+    };
     assert_eq!(ends(&mut areas, 0), Ok(0));
     assert_eq!(ends(&mut areas, 88), Ok(1));
     assert_eq!(ends(&mut areas, 89), Ok(2));
@@ -180,6 +189,9 @@ fn spreading() {
 #[test]
 fn refusals_have_their_numbers() {
     assert_eq!(Refusal::Address.number(), 1);
-    assert_eq!(Refusal::StringTooLong { room: 2, stored: 3 }.to_string(), "refusal 4: a string of 3 bytes for a room of 2");
+    assert_eq!(
+        Refusal::StringTooLong { room: 2, stored: 3 }.to_string(),
+        "refusal 4: a string of 3 bytes for a room of 2"
+    );
     assert_eq!(Refusal::BadArgument.to_string(), "refusal 14: BadArgument");
 }
