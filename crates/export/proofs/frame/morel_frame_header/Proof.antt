@@ -1,4 +1,4 @@
--- the two bytes are laid where there are some.
+-- `morel_frame_header` lays the two bytes where there are some.
 use mathlib.Core.Path.{refl, ap, sym, _∙_}
 use Rattle.pdu.specs.Answers.{saidHeader}
 use Rattle.export.specs.Told.{bytesOver}

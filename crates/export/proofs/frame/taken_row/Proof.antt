@@ -1,4 +1,4 @@
--- each number of the row is a field.
+-- `taken_row`: each number of the row is a field.
 use borrow.Author.Needs.{needs}
 use Rattle.export.proofs.frame.taken_row.Statement.{statement}
 use Rattle.export.proofs.frame.taken_row.Tie as tie

@@ -1,4 +1,4 @@
--- each number of the row is a field.
+-- `general_row`: each number of the row is a field.
 use borrow.Author.Needs.{needs}
 use Rattle.export.proofs.read_out.general_row.Statement.{statement}
 use Rattle.export.proofs.read_out.general_row.Tie as tie

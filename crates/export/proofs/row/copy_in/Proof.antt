@@ -1,4 +1,4 @@
--- `row::copy_in` lays the bytes: after j turns `row` is what it was with the first j bytes of `xs` over it from `at`.
+-- `copy_in` lays the numbers: after j turns `row` is what it was with the first j of `xs` over it from `at`.
 use mathlib.Core.Path.{_≡_, refl, sym, ap, _∙_}
 use Prim.Native.Nat.{ℕ, _≤_, _-_, _+_}
 use native.Mathlib.Numerals.{add-one}

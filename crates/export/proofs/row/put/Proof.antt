@@ -1,4 +1,4 @@
--- `row::put` copies the smaller of what there is and what has room.
+-- `put` copies the smaller of what there is and what has room.
 use mathlib.Core.Path.{sym}
 use borrow.Author.Needs.{needs}
 use Rattle.wire.proofs.Laws.{laid-least, laid-past}

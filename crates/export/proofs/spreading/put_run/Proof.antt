@@ -1,4 +1,4 @@
--- the states are laid behind the two numbers.
+-- `put_run` lays the states behind the two numbers.
 use borrow.Author.Needs.{needs}
 use Rattle.export.proofs.States.{pair-behind}
 use Rattle.export.proofs.spreading.put_run.Statement.{statement}
