@@ -6,7 +6,7 @@ use prog.Routine.{Routine}
 use prog.Wp.{Heap}
 use ghost.Atoms.{Atoms}
 use contract.Monad.{Fun, fact, factI, fact-use}
-use Rattle.pinned.specs.Contracts.{RefusalContracts, WireContracts, CrcContracts, EepromContracts, CategoryContracts, SiiContracts, SetupContracts, ListsContracts, ClockContracts, StringsContracts, PortsContracts, PduContracts, CreatedFrameContracts, FrameReaderContracts, SpreadContracts, LinesContracts, HeldContracts, EveryContract}
+use Rattle.pinned.specs.Contracts.{RefusalContracts, WireContracts, CrcContracts, EepromContracts, CategoryContracts, SiiContracts, SetupContracts, ListsContracts, ClockContracts, StringsContracts, PortsContracts, PduContracts, CreatedFrameContracts, FrameReaderContracts, SpreadContracts, LinesContracts, HeldContracts, EveryContract, ExportContracts}
 
 -- two facts side by side are one
 pub two : {M : Type 1} (𝓤 : URA M) (P Q : Type 0) → ent 𝓤 (sep 𝓤 (fact 𝓤 P) (fact 𝓤 Q)) (fact 𝓤 (P × Q))
@@ -170,6 +170,28 @@ module _ {M : Type 1} (𝓤 : URA M) (H : Heap 𝓤) (A : Atoms 𝓤) (mem : Mem
     «after_assign» = λ κs a g r e. id⊢ 𝓤 _;
   }
 
+  pub export-contracts : ExportContracts 𝓤 H A mem run
+  export-contracts = record {
+    «morel_crc» = λ κs a g r e. id⊢ 𝓤 _;
+    «morel_station_alias» = λ κs a g r e. two 𝓤 _ _;
+    «morel_set_station_alias» = λ κs a g r e. two 𝓤 _ _;
+    «morel_identity» = λ κs a g r e. two 𝓤 _ _;
+    «morel_mailbox_config» = λ κs a g r e. two 𝓤 _ _;
+    «morel_size» = λ κs a g r e. two 𝓤 _ _;
+    «morel_category» = λ κs a g r e. two 𝓤 _ _;
+    «morel_general» = λ κs a g r e. two 𝓤 _ _;
+    «morel_find_string» = λ κs a g r e. three 𝓤 _ _ _;
+    «morel_device_name» = λ κs a g r e. three 𝓤 _ _ _;
+    «morel_device_description» = λ κs a g r e. three 𝓤 _ _ _;
+    «morel_open» = λ κs a g r e. three 𝓤 _ _ _;
+    «morel_push_pdu» = λ κs a g r e. three 𝓤 _ _ _;
+    «morel_push_pdu_slice_rest» = λ κs a g r e. three 𝓤 _ _ _;
+    «morel_can_push_pdu_payload» = λ κs a g r e. two 𝓤 _ _;
+    «morel_frame_header» = λ κs a g r e. two 𝓤 _ _;
+    «morel_read_frame» = λ κs a g r e. two 𝓤 _ _;
+    «morel_spread» = λ κs a g r e. three 𝓤 _ _ _;
+  }
+
   -- THE STATEMENT
   pub every-contract : EveryContract 𝓤 H A mem run
   every-contract = record {
@@ -190,4 +212,5 @@ module _ {M : Type 1} (𝓤 : URA M) (H : Heap 𝓤) (A : Atoms 𝓤) (mem : Mem
     spread = spread-contracts;
     lines = lines-contracts;
     held = held-contracts;
+    exports = export-contracts;
   }

@@ -37,7 +37,8 @@ use Rattle.held.specs.Answers.{saidOutcome, saidByteRead, saidCounted}
 use Rattle.held.proofs.Unique.{outcome-unique, byte-read-unique, counted-unique}
 use Rattle.pinned.specs.Pinned.{Pinned, With}
 use Rattle.pinned.specs.Held.{RangeBuf}
-use Rattle.pinned.specs.Table.{RefusalPinned, WirePinned, CrcPinned, EepromPinned, CategoryPinned, SiiPinned, SetupPinned, ListsPinned, ClockPinned, StringsPinned, PortsPinned, PduPinned, CreatedFramePinned, FrameReaderPinned, SpreadPinned, LinesPinned, HeldPinned, EveryCall}
+use Rattle.pinned.specs.Export.{Lent}
+use Rattle.pinned.specs.Table.{RefusalPinned, WirePinned, CrcPinned, EepromPinned, CategoryPinned, SiiPinned, SetupPinned, ListsPinned, ClockPinned, StringsPinned, PortsPinned, PduPinned, CreatedFramePinned, FrameReaderPinned, SpreadPinned, LinesPinned, HeldPinned, EveryCall, ExportPinned}
 use Rattle.pinned.proofs.Laws.{Unique, equal-pinned, said-pinned, parts-pinned, lent-pinned, said-lent-pinned}
 
 pub refusal-pinned : RefusalPinned
@@ -189,6 +190,36 @@ held-pinned = record {
   «after_assign» = λ p device. equal-pinned _;
 }
 
+-- an export's code and what is lent are two equations
+code-pinned : (code : ℕ) (lent : List ℕ) → Pinned (λ (x : With ℕ (List ℕ)). (x .answer ≡ code) × (x .lent ≡ lent))
+code-pinned code lent = lent-pinned (λ n. n ≡ code) (equal-pinned code) lent
+
+-- .. and with bytes beside the row three
+bytes-pinned : (code : ℕ) (given row : List ℕ) → Pinned (λ (x : Lent). ((x .answer .answer ≡ code) × (x .answer .lent ≡ given)) × (x .lent ≡ row))
+bytes-pinned code given row = lent-pinned (λ (x : With ℕ (List ℕ)). (x .answer ≡ code) × (x .lent ≡ given)) (code-pinned code given) row
+
+pub export-pinned : ExportPinned
+export-pinned = record {
+  «morel_crc» = λ given. equal-pinned _;
+  «morel_station_alias» = λ image out. code-pinned _ _;
+  «morel_set_station_alias» = λ image alias. code-pinned _ _;
+  «morel_identity» = λ image out. code-pinned _ _;
+  «morel_mailbox_config» = λ image out. code-pinned _ _;
+  «morel_size» = λ image out. code-pinned _ _;
+  «morel_category» = λ image number out. code-pinned _ _;
+  «morel_general» = λ image out. code-pinned _ _;
+  «morel_find_string» = λ image index room out. bytes-pinned _ _ _;
+  «morel_device_name» = λ image room out. bytes-pinned _ _ _;
+  «morel_device_description» = λ image room out. bytes-pinned _ _ _;
+  «morel_open» = λ area out. bytes-pinned _ _ _;
+  «morel_push_pdu» = λ area used count last index command address given over out. bytes-pinned _ _ _;
+  «morel_push_pdu_slice_rest» = λ area used count last index command address given out. bytes-pinned _ _ _;
+  «morel_can_push_pdu_payload» = λ size used count last len out. code-pinned _ _;
+  «morel_frame_header» = λ used given. code-pinned _ _;
+  «morel_read_frame» = λ frame out. code-pinned _ _;
+  «morel_spread» = λ areas size used count last index command address image out. bytes-pinned _ _ _;
+}
+
 -- THE STATEMENT: every public call is pinned down
 pub every-call : EveryCall
 every-call = record {
@@ -209,4 +240,5 @@ every-call = record {
   spread = spread-pinned;
   lines = lines-pinned;
   held = held-pinned;
+  exports = export-pinned;
 }

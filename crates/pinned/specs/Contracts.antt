@@ -28,6 +28,7 @@ use Rattle.frame_reader.proofs as of-frame-reader
 use Rattle.spread.proofs as of-spread
 use Rattle.lines.proofs as of-lines
 use Rattle.held.proofs as of-held
+use Rattle.export.proofs as of-export
 use Rattle.pinned.specs.Bytes as bytes
 use Rattle.pinned.specs.Eeprom as eeprom
 use Rattle.pinned.specs.ReadOut as read-out
@@ -35,6 +36,7 @@ use Rattle.pinned.specs.Ports as ports
 use Rattle.pinned.specs.Frames as frames
 use Rattle.pinned.specs.Lines as lines
 use Rattle.pinned.specs.Held as held
+use Rattle.pinned.specs.Export as exports
 
 -- what is promised of the arguments at entry, the result, and the parameters as they are seen at exit
 abbrev pub Promise : Ended → Type 1
@@ -163,6 +165,26 @@ module _ {M : Type 1} (𝓤 : URA M) (H : Heap 𝓤) (A : Atoms 𝓤) (mem : Mem
     pub «assign_next_downstream_port» : Says of-held.assign_next_downstream_port.ended (of-held.assign_next_downstream_port.clauses 𝓤 H A mem run) (λ κs a r e. held.AssignNextDownstreamPort (now (a .0)) (a .1 .0) (record { answer = r; lent = now (e .0) }))
     pub «after_assign» : Says of-held.after_assign.ended (of-held.after_assign.clauses 𝓤 H A mem run) (λ κs a r e. held.AfterAssign (a .0) (a .1 .0) r)
 
+  pub record ExportContracts : Type 1 where
+    pub «morel_crc» : Says of-export.read_out.morel_crc.ended (of-export.read_out.morel_crc.clauses 𝓤 H A mem run) (λ κs a r e. exports.Crc (now (a .0)) r)
+    pub «morel_station_alias» : Says of-export.read_out.morel_station_alias.ended (of-export.read_out.morel_station_alias.clauses 𝓤 H A mem run) (λ κs a r e. exports.StationAlias (now (a .0)) (now (a .1 .0)) (record { answer = r; lent = now (e .1 .0) }))
+    pub «morel_set_station_alias» : Says of-export.read_out.morel_set_station_alias.ended (of-export.read_out.morel_set_station_alias.clauses 𝓤 H A mem run) (λ κs a r e. exports.SetStationAlias (now (a .0)) (a .1 .0) (record { answer = r; lent = now (e .0) }))
+    pub «morel_identity» : Says of-export.read_out.morel_identity.ended (of-export.read_out.morel_identity.clauses 𝓤 H A mem run) (λ κs a r e. exports.Identity (now (a .0)) (now (a .1 .0)) (record { answer = r; lent = now (e .1 .0) }))
+    pub «morel_mailbox_config» : Says of-export.read_out.morel_mailbox_config.ended (of-export.read_out.morel_mailbox_config.clauses 𝓤 H A mem run) (λ κs a r e. exports.MailboxConfig (now (a .0)) (now (a .1 .0)) (record { answer = r; lent = now (e .1 .0) }))
+    pub «morel_size» : Says of-export.read_out.morel_size.ended (of-export.read_out.morel_size.clauses 𝓤 H A mem run) (λ κs a r e. exports.Size (now (a .0)) (now (a .1 .0)) (record { answer = r; lent = now (e .1 .0) }))
+    pub «morel_category» : Says of-export.read_out.morel_category.ended (of-export.read_out.morel_category.clauses 𝓤 H A mem run) (λ κs a r e. exports.Category (now (a .0)) (a .1 .0) (now (a .1 .1 .0)) (record { answer = r; lent = now (e .1 .1 .0) }))
+    pub «morel_general» : Says of-export.read_out.morel_general.ended (of-export.read_out.morel_general.clauses 𝓤 H A mem run) (λ κs a r e. exports.General (now (a .0)) (now (a .1 .0)) (record { answer = r; lent = now (e .1 .0) }))
+    pub «morel_find_string» : Says of-export.text.morel_find_string.ended (of-export.text.morel_find_string.clauses 𝓤 H A mem run) (λ κs a r e. exports.FindString (now (a .0)) (a .1 .0) (now (a .1 .1 .0)) (now (a .1 .1 .1 .0)) (record { answer = record { answer = r; lent = now (e .1 .1 .0) }; lent = now (e .1 .1 .1 .0) }))
+    pub «morel_device_name» : Says of-export.text.morel_device_name.ended (of-export.text.morel_device_name.clauses 𝓤 H A mem run) (λ κs a r e. exports.DeviceName (now (a .0)) (now (a .1 .0)) (now (a .1 .1 .0)) (record { answer = record { answer = r; lent = now (e .1 .0) }; lent = now (e .1 .1 .0) }))
+    pub «morel_device_description» : Says of-export.text.morel_device_description.ended (of-export.text.morel_device_description.clauses 𝓤 H A mem run) (λ κs a r e. exports.DeviceDescription (now (a .0)) (now (a .1 .0)) (now (a .1 .1 .0)) (record { answer = record { answer = r; lent = now (e .1 .0) }; lent = now (e .1 .1 .0) }))
+    pub «morel_open» : Says of-export.frame.morel_open.ended (of-export.frame.morel_open.clauses 𝓤 H A mem run) (λ κs a r e. exports.Open (now (a .0)) (now (a .1 .0)) (record { answer = record { answer = r; lent = now (e .0) }; lent = now (e .1 .0) }))
+    pub «morel_push_pdu» : Says of-export.frame.morel_push_pdu.ended (of-export.frame.morel_push_pdu.clauses 𝓤 H A mem run) (λ κs a r e. exports.PushPdu (now (a .0)) (a .1 .0) (a .1 .1 .0) (a .1 .1 .1 .0) (a .1 .1 .1 .1 .0) (a .1 .1 .1 .1 .1 .0) (a .1 .1 .1 .1 .1 .1 .0) (now (a .1 .1 .1 .1 .1 .1 .1 .0)) (a .1 .1 .1 .1 .1 .1 .1 .1 .0) (now (a .1 .1 .1 .1 .1 .1 .1 .1 .1 .0)) (record { answer = record { answer = r; lent = now (e .0) }; lent = now (e .1 .1 .1 .1 .1 .1 .1 .1 .1 .0) }))
+    pub «morel_push_pdu_slice_rest» : Says of-export.frame.morel_push_pdu_slice_rest.ended (of-export.frame.morel_push_pdu_slice_rest.clauses 𝓤 H A mem run) (λ κs a r e. exports.PushPduSliceRest (now (a .0)) (a .1 .0) (a .1 .1 .0) (a .1 .1 .1 .0) (a .1 .1 .1 .1 .0) (a .1 .1 .1 .1 .1 .0) (a .1 .1 .1 .1 .1 .1 .0) (now (a .1 .1 .1 .1 .1 .1 .1 .0)) (now (a .1 .1 .1 .1 .1 .1 .1 .1 .0)) (record { answer = record { answer = r; lent = now (e .0) }; lent = now (e .1 .1 .1 .1 .1 .1 .1 .1 .0) }))
+    pub «morel_can_push_pdu_payload» : Says of-export.frame.morel_can_push_pdu_payload.ended (of-export.frame.morel_can_push_pdu_payload.clauses 𝓤 H A mem run) (λ κs a r e. exports.CanPushPduPayload (a .0) (a .1 .0) (a .1 .1 .0) (a .1 .1 .1 .0) (a .1 .1 .1 .1 .0) (now (a .1 .1 .1 .1 .1 .0)) (record { answer = r; lent = now (e .1 .1 .1 .1 .1 .0) }))
+    pub «morel_frame_header» : Says of-export.frame.morel_frame_header.ended (of-export.frame.morel_frame_header.clauses 𝓤 H A mem run) (λ κs a r e. exports.FrameHeader (a .0) (now (a .1 .0)) (record { answer = r; lent = now (e .1 .0) }))
+    pub «morel_read_frame» : Says of-export.reader.morel_read_frame.ended (of-export.reader.morel_read_frame.clauses 𝓤 H A mem run) (λ κs a r e. exports.ReadFrame (now (a .0)) (now (a .1 .0)) (record { answer = r; lent = now (e .1 .0) }))
+    pub «morel_spread» : Says of-export.spreading.morel_spread.ended (of-export.spreading.morel_spread.clauses 𝓤 H A mem run) (λ κs a r e. exports.Spread (now (a .0)) (a .1 .0) (a .1 .1 .0) (a .1 .1 .1 .0) (a .1 .1 .1 .1 .0) (a .1 .1 .1 .1 .1 .0) (a .1 .1 .1 .1 .1 .1 .0) (a .1 .1 .1 .1 .1 .1 .1 .0) (now (a .1 .1 .1 .1 .1 .1 .1 .1 .0)) (now (a .1 .1 .1 .1 .1 .1 .1 .1 .1 .0)) (record { answer = record { answer = r; lent = now (e .0) }; lent = now (e .1 .1 .1 .1 .1 .1 .1 .1 .1 .0) }))
+
   -- EVERY CALL'S CONTRACT SAYS WHAT ITS ROW OF THE TABLE PROMISES
   pub record EveryContract : Type 1 where
     pub refusal : RefusalContracts
@@ -182,3 +204,4 @@ module _ {M : Type 1} (𝓤 : URA M) (H : Heap 𝓤) (A : Atoms 𝓤) (mem : Mem
     pub spread : SpreadContracts
     pub lines : LinesContracts
     pub held : HeldContracts
+    pub exports : ExportContracts

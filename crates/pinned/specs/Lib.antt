@@ -6,6 +6,7 @@ pub mod Ports
 pub mod Frames
 pub mod Lines
 pub mod Held
+pub mod Export
 pub mod Table
 pub mod Widths
 pub mod Contracts

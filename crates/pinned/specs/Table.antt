@@ -19,6 +19,7 @@ use Rattle.pinned.specs.Ports as ports
 use Rattle.pinned.specs.Frames as frames
 use Rattle.pinned.specs.Lines as lines
 use Rattle.pinned.specs.Held as held
+use Rattle.pinned.specs.Export as exports
 
 pub record RefusalPinned : Type 0 where
   pub «number» : (x : Refusal) → Pinned (bytes.Number x)
@@ -136,6 +137,26 @@ pub record HeldPinned : Type 0 where
   pub «assign_next_downstream_port» : (p : Ports) (device : ℕ) → Pinned (held.AssignNextDownstreamPort p device)
   pub «after_assign» : (p : Ports) (device : ℕ) → Pinned (held.AfterAssign p device)
 
+pub record ExportPinned : Type 0 where
+  pub «morel_crc» : (given : List ℕ) → Pinned (exports.Crc given)
+  pub «morel_station_alias» : (image out : List ℕ) → Pinned (exports.StationAlias image out)
+  pub «morel_set_station_alias» : (image : List ℕ) (alias : ℕ) → Pinned (exports.SetStationAlias image alias)
+  pub «morel_identity» : (image out : List ℕ) → Pinned (exports.Identity image out)
+  pub «morel_mailbox_config» : (image out : List ℕ) → Pinned (exports.MailboxConfig image out)
+  pub «morel_size» : (image out : List ℕ) → Pinned (exports.Size image out)
+  pub «morel_category» : (image : List ℕ) (number : ℕ) (out : List ℕ) → Pinned (exports.Category image number out)
+  pub «morel_general» : (image out : List ℕ) → Pinned (exports.General image out)
+  pub «morel_find_string» : (image : List ℕ) (index : ℕ) (room out : List ℕ) → Pinned (exports.FindString image index room out)
+  pub «morel_device_name» : (image room out : List ℕ) → Pinned (exports.DeviceName image room out)
+  pub «morel_device_description» : (image room out : List ℕ) → Pinned (exports.DeviceDescription image room out)
+  pub «morel_open» : (area out : List ℕ) → Pinned (exports.Open area out)
+  pub «morel_push_pdu» : (area : List ℕ) (used count last index command address : ℕ) (given : List ℕ) (over : ℕ) (out : List ℕ) → Pinned (exports.PushPdu area used count last index command address given over out)
+  pub «morel_push_pdu_slice_rest» : (area : List ℕ) (used count last index command address : ℕ) (given out : List ℕ) → Pinned (exports.PushPduSliceRest area used count last index command address given out)
+  pub «morel_can_push_pdu_payload» : (size used count last len : ℕ) (out : List ℕ) → Pinned (exports.CanPushPduPayload size used count last len out)
+  pub «morel_frame_header» : (used : ℕ) (given : List ℕ) → Pinned (exports.FrameHeader used given)
+  pub «morel_read_frame» : (frame out : List ℕ) → Pinned (exports.ReadFrame frame out)
+  pub «morel_spread» : (areas : List ℕ) (size used count last index command address : ℕ) (image out : List ℕ) → Pinned (exports.Spread areas size used count last index command address image out)
+
 -- EVERY PUBLIC CALL IS PINNED DOWN, crate by crate
 pub record EveryCall : Type 0 where
   pub refusal : RefusalPinned
@@ -155,3 +176,4 @@ pub record EveryCall : Type 0 where
   pub spread : SpreadPinned
   pub lines : LinesPinned
   pub held : HeldPinned
+  pub exports : ExportPinned

@@ -31,6 +31,7 @@ use Rattle.frame_reader.proofs as of-frame-reader
 use Rattle.spread.proofs as of-spread
 use Rattle.lines.proofs as of-lines
 use Rattle.held.proofs as of-held
+use Rattle.export.proofs as of-export
 
 -- a model of the logic
 module _ {M : Type 1} (𝓤 : URA M) (H : Heap 𝓤) (A : Atoms 𝓤) (mem : Memory → SProp 𝓤) (run : Routine → Fun 𝓤) where
@@ -160,6 +161,26 @@ module _ {M : Type 1} (𝓤 : URA M) (H : Heap 𝓤) (A : Atoms 𝓤) (mem : Mem
     pub «assign_next_downstream_port» : Whole of-held.assign_next_downstream_port.ended (of-held.assign_next_downstream_port.clauses 𝓤 H A mem run)
     pub «after_assign» : Whole of-held.after_assign.ended (of-held.after_assign.clauses 𝓤 H A mem run)
 
+  pub record ExportWhole : Type 1 where
+    pub «morel_crc» : Whole of-export.read_out.morel_crc.ended (of-export.read_out.morel_crc.clauses 𝓤 H A mem run)
+    pub «morel_station_alias» : Whole of-export.read_out.morel_station_alias.ended (of-export.read_out.morel_station_alias.clauses 𝓤 H A mem run)
+    pub «morel_set_station_alias» : Whole of-export.read_out.morel_set_station_alias.ended (of-export.read_out.morel_set_station_alias.clauses 𝓤 H A mem run)
+    pub «morel_identity» : Whole of-export.read_out.morel_identity.ended (of-export.read_out.morel_identity.clauses 𝓤 H A mem run)
+    pub «morel_mailbox_config» : Whole of-export.read_out.morel_mailbox_config.ended (of-export.read_out.morel_mailbox_config.clauses 𝓤 H A mem run)
+    pub «morel_size» : Whole of-export.read_out.morel_size.ended (of-export.read_out.morel_size.clauses 𝓤 H A mem run)
+    pub «morel_category» : Whole of-export.read_out.morel_category.ended (of-export.read_out.morel_category.clauses 𝓤 H A mem run)
+    pub «morel_general» : Whole of-export.read_out.morel_general.ended (of-export.read_out.morel_general.clauses 𝓤 H A mem run)
+    pub «morel_find_string» : Whole of-export.text.morel_find_string.ended (of-export.text.morel_find_string.clauses 𝓤 H A mem run)
+    pub «morel_device_name» : Whole of-export.text.morel_device_name.ended (of-export.text.morel_device_name.clauses 𝓤 H A mem run)
+    pub «morel_device_description» : Whole of-export.text.morel_device_description.ended (of-export.text.morel_device_description.clauses 𝓤 H A mem run)
+    pub «morel_open» : Whole of-export.frame.morel_open.ended (of-export.frame.morel_open.clauses 𝓤 H A mem run)
+    pub «morel_push_pdu» : Whole of-export.frame.morel_push_pdu.ended (of-export.frame.morel_push_pdu.clauses 𝓤 H A mem run)
+    pub «morel_push_pdu_slice_rest» : Whole of-export.frame.morel_push_pdu_slice_rest.ended (of-export.frame.morel_push_pdu_slice_rest.clauses 𝓤 H A mem run)
+    pub «morel_can_push_pdu_payload» : Whole of-export.frame.morel_can_push_pdu_payload.ended (of-export.frame.morel_can_push_pdu_payload.clauses 𝓤 H A mem run)
+    pub «morel_frame_header» : Whole of-export.frame.morel_frame_header.ended (of-export.frame.morel_frame_header.clauses 𝓤 H A mem run)
+    pub «morel_read_frame» : Whole of-export.reader.morel_read_frame.ended (of-export.reader.morel_read_frame.clauses 𝓤 H A mem run)
+    pub «morel_spread» : Whole of-export.spreading.morel_spread.ended (of-export.spreading.morel_spread.clauses 𝓤 H A mem run)
+
   -- EVERY CALL, WHOLE
   pub record EveryWhole : Type 1 where
     pub refusal : RefusalWhole
@@ -179,3 +200,4 @@ module _ {M : Type 1} (𝓤 : URA M) (H : Heap 𝓤) (A : Atoms 𝓤) (mem : Mem
     pub spread : SpreadWhole
     pub lines : LinesWhole
     pub held : HeldWhole
+    pub exports : ExportWhole

@@ -1,0 +1,96 @@
+-- Laws of what is told: what says the same is told the same, so an export's proof shows only that its values are the answer's.
+use Prim.Native.Nat.{ℕ}
+use mathlib.Core.Path.{_≡_, refl, sym, ap, _∙_}
+use lib.ListN.{length}
+use lib.Seq.{take-nil}
+use mathlib.Core.Bool.{Bool, true, false}
+use mathlib.Core.List.{List, [], _∷_}
+use types.Run.{OneOf, miss}
+use denote.Enum.Declared.{tagOf}
+use Rattle.refusal.specs.Said.{Said, absent, numberOf, valuesOf, saidOf, pick}
+use Rattle.refusal.specs.declared.Refusal.{Refusal}
+use Rattle.refusal.proofs.Refusal.{the-type}
+use Rattle.refusal.specs.declared.Refusal.the-variants.{
+  Address,
+  Overrun,
+  NoCategory,
+  StringTooLong,
+  Decode,
+  Capacity,
+  NotWritable,
+  TooLong,
+  NoPort,
+  BadPort,
+  Sum,
+  BadFrame,
+  NoRoom,
+  BadArgument,
+}
+use Rattle.sii.specs.General.{bit}
+use Rattle.created_frame.specs.declared.Builder.{Builder}
+use Rattle.wire.specs.Bytes.{laid}
+use Rattle.wire.proofs.Laws.{overlay-none}
+use Rattle.export.specs.Told.{codeOf, rowOver, stateOver, bytesOver}
+
+-- what says the same is told the same
+pub told : (s t : Said) (r : ℕ) (before after : List ℕ) → s ≡ t → (r ≡ codeOf s) × (after ≡ rowOver before s)
+    → (r ≡ codeOf t) × (after ≡ rowOver before t)
+told s t r before after e h = (h .0 ∙ ap codeOf e, h .1 ∙ ap (rowOver before) e)
+
+-- .. also beside what else is lent
+pub told-beside : (X : Type 0) (s t : Said) (r : ℕ) (before after : List ℕ) → X → s ≡ t → (r ≡ codeOf s) × (after ≡ rowOver before s)
+    → (r ≡ codeOf t) × (X × (after ≡ rowOver before t))
+told-beside X s t r before after x e h = (h .0 ∙ ap codeOf e, (x, h .1 ∙ ap (rowOver before) e))
+
+-- .. and with the builder's state
+pub state-told : (s t : Said) (b d : Builder) (i j : ℕ) (before after : List ℕ) → s ≡ t → (b ≡ d) × (i ≡ j) → after ≡ stateOver before b i s
+    → after ≡ stateOver before d j t
+state-told s t b d i j before after e f h = rw (← e, ← f .0, ← f .1) h
+
+-- bytes that are lent
+pub told-bytes : (s t : Said) (r : ℕ) (xs ys before after : List ℕ) → s ≡ t → xs ≡ ys → (r ≡ codeOf s) × (after ≡ bytesOver before s xs)
+    → (r ≡ codeOf t) × (after ≡ bytesOver before t ys)
+told-bytes s t r xs ys before after e f h = (h .0 ∙ ap codeOf e, rw (← e, ← f) (h .1))
+
+-- no values leave the row as it was
+pub laid-none : (row : List ℕ) (at : ℕ) → row ≡ laid row at []
+unfolding laid
+laid-none row at = rw take-nil (sym (overlay-none row at))
+
+-- absent: the row stays
+pub told-absent : (t : Said) (row : List ℕ) → absent ≡ t → (255 ≡ codeOf t) × (row ≡ rowOver row t)
+unfolding rowOver
+told-absent t row e = told absent t 255 row row e (refl, laid-none row 0)
+
+-- a test as a number, in either crate's words
+pub bit-pick : (t : Bool) → bit t ≡ pick t 1 0
+bit-pick true = refl
+bit-pick false = refl
+
+-- ---- a refusal
+
+-- the places of all but the string that is too long
+abbrev pub others : List ℕ
+others = 0 ∷ 1 ∷ 2 ∷ 4 ∷ 5 ∷ 6 ∷ 7 ∷ 8 ∷ 9 ∷ 10 ∷ 11 ∷ 12 ∷ 13 ∷ []
+
+-- .. which have no values
+no-values : (x : Refusal) → OneOf others (tagOf the-type x) → valuesOf x ≡ []
+no-values Address k = refl
+no-values Overrun k = refl
+no-values NoCategory k = refl
+no-values (StringTooLong r s) k = absurd (miss others 3 tt k)
+no-values Decode k = refl
+no-values Capacity k = refl
+no-values NotWritable k = refl
+no-values TooLong k = refl
+no-values NoPort k = refl
+no-values BadPort k = refl
+no-values Sum k = refl
+no-values BadFrame k = refl
+no-values NoRoom k = refl
+no-values BadArgument k = refl
+
+-- .. so the row stays
+pub row-stays : (x : Refusal) → OneOf others (tagOf the-type x) → (row : List ℕ) → row ≡ rowOver row (saidOf x)
+unfolding rowOver
+row-stays x k row = rw (no-values x k) (laid-none row 0)

@@ -1,0 +1,230 @@
+// The frame builder, the frame header and the frame reader. A builder's state goes in as numbers and comes back in the row.
+use crate::row::ABSENT;
+use crate::row::GIVES;
+use crate::row::flag;
+use crate::row::given;
+use crate::row::put;
+use crate::row::refused;
+use crate::row::wide;
+use crate::row::wide8;
+use created_frame::Builder;
+use created_frame::CanPush;
+use created_frame::Opened;
+use created_frame::PduResponseHandle;
+use created_frame::Push;
+use created_frame::Pushed;
+use created_frame::Rest;
+use created_frame::RestPush;
+use pdu::HeaderAnswer;
+ghost use mathlib.Core.Path.{_≡_};
+ghost use mathlib.Core.List.{[], _∷_};
+ghost use lib.ListN.{length};
+ghost use Rattle.pdu.specs.Answers.{saidHeader, headerSaid, headerLeft};
+ghost use Rattle.created_frame.specs.Frame.{opened, afterOpen, pushed, pushedBuilder, pushedNext, afterPush, restPushed, restBuilder, restNext, afterRest, canPush};
+ghost use Rattle.created_frame.specs.Answers.{handleValues, saidOpened, saidPushed, saidRest};
+ghost use Rattle.export.specs.Told.{codeOf, rowOver, stateOf, stateOver, bytesOver};
+
+// Zeroes the area; the row takes the state of an empty one: used, count, last.
+#[no_mangle]
+pub extern "C" fn morel_open(area: &mut [u8], out: &mut [u64]) -> u8
+    ensures code { λ r. ⌜ r ≡ codeOf (opened (length (now (area .entry)))) ⌝ }
+    ensures bytes { λ _. ⌜ now (area .exit) ≡ afterOpen (now (area .entry)) ⌝ }
+    ensures lent { λ _. ⌜ now (out .exit) ≡ rowOver (now (out .entry)) (opened (length (now (area .entry)))) ⌝ }
+{
+    let r = created_frame::open(area);
+    of_opened(out, r)
+}
+
+fn of_opened(out: &mut [u64], r: Opened) -> u8
+    ensures code { λ n. ⌜ n ≡ codeOf (saidOpened r) ⌝ }
+    ensures lent { λ _. ⌜ now (out .exit) ≡ rowOver (now (out .entry)) (saidOpened r) ⌝ }
+{
+    match r {
+        Opened::Ready(b) => {
+            let xs = [b.used as u64, b.count as u64, b.last as u64];
+            given(out, &xs)
+        }
+        Opened::No(x) => refused(out, x),
+    }
+}
+
+// Pushes a PDU of these bytes, its payload as long as the larger of their count and `over`.
+// The row takes the state after it and the next index, and behind them the PDU's place, size, index and command.
+#[no_mangle]
+pub extern "C" fn morel_push_pdu(
+    area: &mut [u8],
+    used: usize,
+    count: usize,
+    last: usize,
+    index: u8,
+    command: u8,
+    address: u32,
+    bytes: &[u8],
+    over: usize,
+    out: &mut [u64],
+) -> u8
+    ensures code { λ r. ⌜ r ≡ codeOf (pushed (length (now (area .entry))) (stateOf used count last) index command (length (now (bytes .entry))) over) ⌝ }
+    ensures bytes { λ _. ⌜ now (area .exit) ≡ afterPush (now (area .entry)) (stateOf used count last) index command address (now (bytes .entry)) over ⌝ }
+    ensures lent { λ _. ⌜ now (out .exit) ≡ stateOver (now (out .entry))
+        (pushedBuilder (length (now (area .entry))) (stateOf used count last) command (length (now (bytes .entry))) over)
+        (pushedNext (length (now (area .entry))) (stateOf used count last) index command (length (now (bytes .entry))) over)
+        (pushed (length (now (area .entry))) (stateOf used count last) index command (length (now (bytes .entry))) over) ⌝ }
+{
+    let b = Builder { used, count, last };
+    let r = created_frame::push_pdu(area, b, index, command, address, bytes, over);
+    of_push(out, r)
+}
+
+fn of_push(out: &mut [u64], r: Push) -> u8
+    ensures code { λ n. ⌜ n ≡ codeOf (saidPushed (r .answer)) ⌝ }
+    ensures lent { λ _. ⌜ now (out .exit) ≡ stateOver (now (out .entry)) (r .builder) (r .next) (saidPushed (r .answer)) ⌝ }
+{
+    let answer = r.answer;
+    let b = r.builder;
+    let next = r.next;
+    match answer {
+        Pushed::Done(h) => {
+            let xs = pushed_row(b, next, h);
+            put(out, 0, &xs);
+            GIVES
+        }
+        Pushed::No(x) => {
+            let xs = kept_row(b, next);
+            put(out, 0, &xs);
+            refusal::number(x)
+        }
+    }
+}
+
+// The state and the next index.
+fn kept_row(b: Builder, next: u8) -> [u64; 4]
+    ensures { λ r. ⌜ r ≡ b .used ∷ b .count ∷ b .last ∷ next ∷ [] ⌝ }
+{
+    [wide(b.used), wide(b.count), wide(b.last), wide8(next)]
+}
+
+// .. and the PDU behind them.
+fn pushed_row(b: Builder, next: u8, h: PduResponseHandle) -> [u64; 8]
+    ensures { λ r. ⌜ r ≡ b .used ∷ b .count ∷ b .last ∷ next ∷ handleValues h ⌝ }
+{
+    [
+        wide(b.used),
+        wide(b.count),
+        wide(b.last),
+        wide8(next),
+        wide(h.start),
+        wide(h.size),
+        wide8(h.index),
+        wide8(h.command),
+    ]
+}
+
+// Pushes a PDU of the first of these bytes, as many as have room. The row takes the state after it and the next index,
+// and behind them how many went in and the PDU's place, size, index and command.
+#[no_mangle]
+pub extern "C" fn morel_push_pdu_slice_rest(
+    area: &mut [u8],
+    used: usize,
+    count: usize,
+    last: usize,
+    index: u8,
+    command: u8,
+    address: u32,
+    bytes: &[u8],
+    out: &mut [u64],
+) -> u8
+    ensures code { λ r. ⌜ r ≡ codeOf (restPushed (length (now (area .entry))) (stateOf used count last) index command (length (now (bytes .entry)))) ⌝ }
+    ensures bytes { λ _. ⌜ now (area .exit) ≡ afterRest (now (area .entry)) (stateOf used count last) index command address (now (bytes .entry)) ⌝ }
+    ensures lent { λ _. ⌜ now (out .exit) ≡ stateOver (now (out .entry))
+        (restBuilder (length (now (area .entry))) (stateOf used count last) command (length (now (bytes .entry))))
+        (restNext (length (now (area .entry))) (stateOf used count last) index command (length (now (bytes .entry))))
+        (restPushed (length (now (area .entry))) (stateOf used count last) index command (length (now (bytes .entry)))) ⌝ }
+{
+    let b = Builder { used, count, last };
+    let r = created_frame::push_pdu_slice_rest(area, b, index, command, address, bytes);
+    of_rest(out, r)
+}
+
+fn of_rest(out: &mut [u64], r: RestPush) -> u8
+    ensures code { λ n. ⌜ n ≡ codeOf (saidRest (r .answer)) ⌝ }
+    ensures lent { λ _. ⌜ now (out .exit) ≡ stateOver (now (out .entry)) (r .builder) (r .next) (saidRest (r .answer)) ⌝ }
+{
+    let answer = r.answer;
+    let b = r.builder;
+    let next = r.next;
+    match answer {
+        Rest::Done { taken, pdu } => {
+            let xs = taken_row(b, next, taken, pdu);
+            put(out, 0, &xs);
+            GIVES
+        }
+        Rest::Absent => {
+            let xs = kept_row(b, next);
+            put(out, 0, &xs);
+            ABSENT
+        }
+        Rest::No(x) => {
+            let xs = kept_row(b, next);
+            put(out, 0, &xs);
+            refusal::number(x)
+        }
+    }
+}
+
+// The state and the next index, how many bytes were taken, and the PDU.
+fn taken_row(b: Builder, next: u8, taken: usize, h: PduResponseHandle) -> [u64; 9]
+    ensures { λ r. ⌜ r ≡ b .used ∷ b .count ∷ b .last ∷ next ∷ taken ∷ handleValues h ⌝ }
+{
+    [
+        wide(b.used),
+        wide(b.count),
+        wide(b.last),
+        wide8(next),
+        wide(taken),
+        wide(h.start),
+        wide(h.size),
+        wide8(h.index),
+        wide8(h.command),
+    ]
+}
+
+// Whether a PDU of len payload bytes has room: 1 or 0.
+#[no_mangle]
+pub extern "C" fn morel_can_push_pdu_payload(
+    size: usize,
+    used: usize,
+    count: usize,
+    last: usize,
+    len: usize,
+    out: &mut [u64],
+) -> u8
+    ensures code { λ r. ⌜ r ≡ codeOf (canPush size (stateOf used count last) len) ⌝ }
+    ensures lent { λ _. ⌜ now (out .exit) ≡ rowOver (now (out .entry)) (canPush size (stateOf used count last) len) ⌝ }
+{
+    let b = Builder { used, count, last };
+    match created_frame::can_push_pdu_payload(size, b, len) {
+        CanPush::Room(t) => {
+            let xs = [flag(t)];
+            given(out, &xs)
+        }
+        CanPush::No(x) => refused(out, x),
+    }
+}
+
+// The two bytes of the header of a frame whose PDUs take this many bytes, at the front of `bytes`; a refusal leaves them as they are.
+#[no_mangle]
+pub extern "C" fn morel_frame_header(used: usize, bytes: &mut [u8]) -> u8
+    ensures code { λ r. ⌜ r ≡ codeOf (headerSaid used) ⌝ }
+    ensures lent { λ _. ⌜ now (bytes .exit) ≡ bytesOver (now (bytes .entry)) (headerSaid used) (headerLeft used) ⌝ }
+{
+    let h = pdu::frame_header(used);
+    let answer = h.answer;
+    let head = h.bytes;
+    match answer {
+        HeaderAnswer::Header => {
+            wire::lay(bytes, 0, &head);
+            GIVES
+        }
+        HeaderAnswer::No(x) => refusal::number(x),
+    }
+}
