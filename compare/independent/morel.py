@@ -318,10 +318,6 @@ def on_file(command, path, folder, limit, lines):
     return begun + [line("file bytes", str(len(content)))] + lines(content)
 
 
-def head(command, path):
-    return [line("command", command), line("file", plain(path))]
-
-
 def sii_command(folder, path):
     return on_file("sii", path, folder, IMAGE_FILE_LIMIT, sii_lines)
 
@@ -340,38 +336,38 @@ def number(word):
 
 def alias_command(folder, path, word):
     value = number(word)
-    if value is None or value > 65_535:
-        return head("alias", path) + error("N is no number from 0 to 65535")
 
     def lines(image):
+        if value is None or value > 65_535:
+            return error("N is no number from 0 to 65535")
         before = bytes(image)
         try:
             sii.set_alias(image, value)
         except Refusal as refusal:
             return [line("alias", refused(refusal))]
-        said = [line("alias", str(value))]
+        said = []
         try:
             with open(os.path.join(os.fsencode(folder), path), "r+b") as file:
                 file.write(image)
         except OSError:
-            return said + [line("written", "no")]
+            return error("the file cannot be written")
         for place, (old, new) in enumerate(zip(before, image)):
             if old != new:
                 said += [line(f"byte {place} before", hex8(old)),
                          line(f"byte {place} after", hex8(new))]
-        return said + [line("written", "yes")]
+        return said + [line("alias written", str(value))]
 
     return on_file("alias", path, folder, IMAGE_FILE_LIMIT, lines)
 
 
 def spread_command(folder, size, areas, path):
-    for name, word in (("SIZE", size), ("AREAS", areas)):
-        if number(word) is None:
-            return head("spread", path) + error(
-                f"{name} is no number of 32 bits")
-    return on_file(
-        "spread", path, folder, IMAGE_FILE_LIMIT,
-        lambda image: spread_lines(image, number(size), number(areas)))
+    def lines(image):
+        for name, word in (("SIZE", size), ("AREAS", areas)):
+            if number(word) is None:
+                return error(f"{name} is no number of 32 bits")
+        return spread_lines(image, number(size), number(areas))
+
+    return on_file("spread", path, folder, IMAGE_FILE_LIMIT, lines)
 
 
 COMMAND_TABLE = {

@@ -1,35 +1,12 @@
 // `morel alias`: writes the station alias and the checksum into an image's file.
-use crate::file;
+use crate::file::open_failed;
 use crate::text::front;
-use crate::text::front_mut;
 use crate::text::line;
-use crate::text::one;
+use crate::text::no;
 use crate::text::record;
 use crate::text::refused;
-use crate::words;
 use sii::AliasSet;
 use wire::byte_at;
-
-// The file that argument `at` names, and the alias behind it.
-pub(crate) fn command(at: usize) {
-    let mut path = io::buffer();
-    let n = os::arg(at, &mut path);
-    let alias = words::number(words::next(at));
-    file::begin(b"alias", &path[..n]);
-    if alias <= 65535 {
-        of_file(&path[..n], alias as u16);
-    } else {
-        line(b"error", b"N is no number from 0 to 65535");
-    }
-}
-
-fn of_file(path: &[u8], alias: u16) {
-    let mut room = io::large_buffer();
-    let n = file::read(path, &mut room);
-    if n <= 65536 {
-        set(path, front_mut(&mut room, n), alias);
-    }
-}
 
 // The bytes of alias and checksum.
 struct Bytes {
@@ -48,30 +25,30 @@ fn bytes_of(image: &[u8]) -> Bytes {
     }
 }
 
-// Nothing is written where setting the alias is refused.
-fn set(path: &[u8], image: &mut [u8], alias: u16) {
+// Nothing is written where the number is none of 16 bits, nor where setting the alias is refused.
+pub(crate) fn set(path: &[u8], image: &mut [u8], alias: u64) {
+    if 65535 < alias {
+        return line(b"error", b"N is no number from 0 to 65535");
+    }
     let before = bytes_of(image);
-    match sii::set_station_alias(image, alias) {
-        AliasSet::Done => {
-            one(b"dalias", alias as u64);
-            store(path, image, before);
-        }
-        AliasSet::No(x) => refused(b"alias", x),
+    match sii::set_station_alias(image, alias as u16) {
+        AliasSet::Done => store(path, image, alias, before),
+        AliasSet::No(x) => refused(b"alias", no(x)),
     }
 }
 
 // The image's first sixteen bytes go into the file by one call: alias and checksum change together.
-fn store(path: &[u8], image: &[u8], before: Bytes) {
+fn store(path: &[u8], image: &[u8], alias: u64, before: Bytes) {
     let fd = os::open_update(path);
+    open_failed(fd, path);
     let put = libc::pwrite(fd, front(image, 16), 0);
+    libc::close(fd);
     if put == 16 {
         changes(before, bytes_of(image));
-        line(b"written", b"yes");
+        record(0, b",dalias written", &[0, alias]);
     } else {
-        os::fail(path);
-        line(b"written", b"no");
+        line(b"error", b"the file cannot be written");
     }
-    libc::close(fd);
 }
 
 fn changes(before: Bytes, after: Bytes) {
@@ -84,7 +61,10 @@ fn changes(before: Bytes, after: Bytes) {
 // A byte that changed: its place, what stood there and what stands there.
 fn change(place: usize, before: u8, after: u8) {
     if before != after {
-        let values = [before as u64, after as u64];
-        record(b"byte ", place, b"2before,2after", &values);
+        record(
+            place,
+            b",2byte # before,2byte # after",
+            &[0, before as u64, after as u64],
+        );
     }
 }

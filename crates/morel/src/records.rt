@@ -1,9 +1,7 @@
 // The lists of an image: sync managers, FMMUs, PDOs, modes of the distributed clock. A list's first line has its count, or the refusal that it gives.
-use crate::text::bit;
-use crate::text::label;
+use crate::text::no;
 use crate::text::record;
-use crate::text::refused;
-use crate::text::say;
+use crate::text::wide8;
 use clock::DistributedClock;
 use clock::DistributedClocks;
 use eeprom::Chunk;
@@ -18,114 +16,105 @@ use wire::lesser;
 pub(crate) fn print(image: &[u8]) {
     sync_managers(lists::sync_managers(image, Chunk::Eight));
     fmmus(
-        b"fmmus",
-        b"vusage=Unused Outputs Inputs SyncManagerStatus",
+        b"fmmus,dfmmus",
+        b",vfmmu # usage=Unused Outputs Inputs SyncManagerStatus",
         lists::fmmus(image, Chunk::Eight),
     );
     fmmus(
-        b"extended fmmus",
-        b"dsync manager",
+        b"extended fmmus,dextended fmmus",
+        b",dfmmu # sync manager",
         lists::fmmu_mappings(image, Chunk::Eight),
     );
     pdos(
-        b"tx pdos",
-        b"tx pdo ",
+        b"tx pdos,dtx pdos",
+        b",4tx pdo # index,dtx pdo # entries,dtx pdo # sync manager,dtx pdo # bits",
         lists::maindevice_read_pdos(image, Chunk::Eight),
     );
     pdos(
-        b"rx pdos",
-        b"rx pdo ",
+        b"rx pdos,drx pdos",
+        b",4rx pdo # index,drx pdo # entries,drx pdo # sync manager,drx pdo # bits",
         lists::maindevice_write_pdos(image, Chunk::Eight),
     );
     clocks(clock::distributed_clocks(image, Chunk::Eight));
 }
 
-// A list's first line.
-fn count(name: &[u8], answer: ListAnswer, n: usize) {
+// The row of a list's first line.
+fn listed(answer: ListAnswer, n: usize) -> [u64; 2] {
     match answer {
-        ListAnswer::Listed => {
-            label(name);
-            io::print_decimal(libc::STDOUT_FILENO, n as u64);
-            say(b"\n");
-        }
-        ListAnswer::No(x) => refused(name, x),
+        ListAnswer::Listed => [0, n as u64],
+        ListAnswer::No(x) => [no(x), 0],
     }
 }
 
-fn sync_manager(i: usize, s: SyncManager) {
-    let values = [
+fn sync_manager(s: SyncManager) -> [u64; 10] {
+    [
+        0,
         s.start_addr as u64,
         s.length_bytes as u64,
         s.operation_mode as u64,
         s.direction as u64,
-        bit(s.ecat_event_enable),
-        bit(s.dls_user_event_enable),
-        bit(s.watchdog_enable),
+        s.ecat_event_enable as u64,
+        s.dls_user_event_enable as u64,
+        s.watchdog_enable as u64,
         s.enable as u64,
         s.usage_type as u64,
-    ];
-    record(
-        b"sync manager ",
-        i,
-        b"4start,dbytes,vmode=Normal - Mailbox,vdirection=MasterRead MasterWrite,necat event=no yes,ndls event=no yes,nwatchdog=no yes,fenable=enable is-fixed is-virtual op-only,vusage=Unknown MailboxWrite MailboxRead ProcessDataWrite ProcessDataRead",
-        &values,
-    );
+    ]
 }
 
 fn sync_managers(l: SyncManagers) {
     let answer = l.answer;
     let items = l.items;
     let n = lesser(l.count, 8);
-    count(b"sync managers", answer, n);
+    record(0, b"sync managers,dsync managers", &listed(answer, n));
     let mut i = 0;
     while i < n {
-        sync_manager(i, items[i]);
+        record(
+            i,
+            b",4sync manager # start,dsync manager # bytes,vsync manager # mode=Normal - Mailbox,vsync manager # direction=MasterRead MasterWrite,nsync manager # ecat event=no yes,nsync manager # dls event=no yes,nsync manager # watchdog=no yes,fsync manager # enable=enable is-fixed is-virtual op-only,vsync manager # usage=Unknown MailboxWrite MailboxRead ProcessDataWrite ProcessDataRead",
+            &sync_manager(items[i]),
+        );
         i += 1;
     }
 }
 
-// A list of FMMUs has one field for each, as the table says it.
-fn fmmus(name: &[u8], table: &[u8], l: FmmuList) {
+// A list of FMMUs has one number for each.
+fn fmmus(head: &[u8], table: &[u8], l: FmmuList) {
     let answer = l.answer;
     let items = l.items;
     let n = lesser(l.count, 16);
-    count(name, answer, n);
+    record(0, head, &listed(answer, n));
     let mut i = 0;
     while i < n {
-        fmmu(i, table, items[i]);
+        record(i, table, &[0, wide8(items[i])]);
         i += 1;
     }
 }
 
-fn fmmu(i: usize, table: &[u8], v: u8) {
-    let values = [v as u64];
-    record(b"fmmu ", i, table, &values);
-}
-
-fn pdo(head: &[u8], i: usize, p: Pdo) {
-    let values = [
+fn pdo(p: Pdo) -> [u64; 5] {
+    [
+        0,
         p.index as u64,
         p.num_entries as u64,
         p.sync_manager as u64,
         p.bit_len as u64,
-    ];
-    record(head, i, b"4index,dentries,dsync manager,dbits", &values);
+    ]
 }
 
-fn pdos(name: &[u8], head: &[u8], l: PdoList) {
+fn pdos(head: &[u8], table: &[u8], l: PdoList) {
     let answer = l.answer;
     let items = l.items;
     let n = lesser(l.count, 64);
-    count(name, answer, n);
+    record(0, head, &listed(answer, n));
     let mut i = 0;
     while i < n {
-        pdo(head, i, items[i]);
+        record(i, table, &pdo(items[i]));
         i += 1;
     }
 }
 
-fn clock_mode(i: usize, c: DistributedClock) {
-    let values = [
+fn clock_mode(c: DistributedClock) -> [u64; 9] {
+    [
+        0,
         c.cycle_time0 as u64,
         c.shift_time0 as u64,
         c.shift_time1 as u64,
@@ -134,23 +123,21 @@ fn clock_mode(i: usize, c: DistributedClock) {
         c.sync0_cycle_factor as u64,
         c.name_string_idx as u64,
         c.description_string_idx as u64,
-    ];
-    record(
-        b"clock mode ",
-        i,
-        b"dcycle time,dshift time 0,dshift time 1,ssync1 factor,4activate,ssync0 factor,dname,ddescription",
-        &values,
-    );
+    ]
 }
 
 fn clocks(l: DistributedClocks) {
     let answer = l.answer;
     let items = l.items;
     let n = lesser(l.count, 8);
-    count(b"clock modes", answer, n);
+    record(0, b"clock modes,dclock modes", &listed(answer, n));
     let mut i = 0;
     while i < n {
-        clock_mode(i, items[i]);
+        record(
+            i,
+            b",dclock mode # cycle time,dclock mode # shift time 0,dclock mode # shift time 1,sclock mode # sync1 factor,4clock mode # activate,sclock mode # sync0 factor,dclock mode # name,dclock mode # description",
+            &clock_mode(items[i]),
+        );
         i += 1;
     }
 }

@@ -14,39 +14,39 @@ Inv-loop text i₀ t3 i = Unit {0}
 abbrev μ-loop : tie.MeasureT-loop
 μ-loop text i₀ t3 i = length text - i
 
--- src/text.rt:210:5
+-- src/text.rt:136:5
 loop-holds : tie.Need-loop-holds Inv-loop μ-loop
 loop-holds c = search needs
 
--- src/text.rt:211:15
+-- src/text.rt:137:15
 shared-slice-read-glyph : tie.Need-shared-slice-read-glyph Inv-loop μ-loop
 shared-slice-read-glyph c = search needs
 
--- src/text.rt:211:9
+-- src/text.rt:137:9
 glyph-requires : tie.Need-glyph-requires Inv-loop μ-loop
 glyph-requires c κs = search needs
 
--- src/text.rt:212:9
+-- src/text.rt:138:9
 add-i : tie.Need-add-i Inv-loop μ-loop
 add-i c = search needs
 
--- src/text.rt:210:5
+-- src/text.rt:136:5
 loop-less : tie.Need-loop-less Inv-loop μ-loop
 loop-less c = search needs
 
--- src/text.rt:210:5
+-- src/text.rt:136:5
 loop-again : tie.Need-loop-again Inv-loop μ-loop
 loop-again c = search needs
 
--- src/text.rt:214:9
+-- src/text.rt:140:9
 slice-aggregate-say : tie.Need-slice-aggregate-say Inv-loop μ-loop
 slice-aggregate-say c = search needs
 
--- src/text.rt:214:5
+-- src/text.rt:140:5
 say-requires : tie.Need-say-requires Inv-loop μ-loop
 say-requires c κs = search needs
 
--- src/text.rt:208:1
+-- src/text.rt:134:1
 returns : tie.Need-returns Inv-loop μ-loop
 returns c = search needs
 
