@@ -1,14 +1,8 @@
+-- `morel::records::pdos` is safe and ends: the PDOs that are left fall.
 use borrow.Author.Needs.{needs}
-use lib.ListN.{length}
-use Prim.Native.Nat.{_≤_, _<_, _+_, _-_, _*_}
+use Prim.Native.Nat.{_-_}
 use Rattle.morel.proofs.records.pdos.Statement.{statement}
 use Rattle.morel.proofs.records.pdos.Tie as tie
-use Rattle.morel.proofs.records.pdos.Reads as reads
-use Rattle.morel.proofs.records.pdos.Lts as lts
-use Rattle.morel.proofs.records.listed.Reads as listed-reads
-use Rattle.morel.proofs.records.pdo.Reads as pdo-reads
-use Rattle.morel.proofs.text.record.Reads as record-reads
-use Rattle.wire.proofs.lesser.Reads as lesser-reads
 
 abbrev Inv-loop : tie.InvT-loop
 Inv-loop head table items n i₀ i = Unit {0}
@@ -16,59 +10,45 @@ Inv-loop head table items n i₀ i = Unit {0}
 abbrev μ-loop : tie.MeasureT-loop
 μ-loop head table items n i₀ i = n - i
 
--- src/records.rt:106:9
 lesser-requires : tie.Need-lesser-requires Inv-loop μ-loop
 lesser-requires c κs = search needs
 
--- src/records.rt:107:22
 listed-requires : tie.Need-listed-requires Inv-loop μ-loop
 listed-requires c κs = search needs
 
--- src/records.rt:107:21
 slice-aggregate-record : tie.Need-slice-aggregate-record Inv-loop μ-loop
 slice-aggregate-record c = search needs
 
--- src/records.rt:107:5
 record-requires : tie.Need-record-requires Inv-loop μ-loop
 record-requires c κs = search needs
 
--- src/records.rt:109:5
 loop-holds : tie.Need-loop-holds Inv-loop μ-loop
 loop-holds c = search needs
 
--- src/records.rt:110:31
 mul-pdo : tie.Need-mul-pdo Inv-loop μ-loop
 mul-pdo c = search needs
 
--- src/records.rt:110:31
 array-copy-out-pdo : tie.Need-array-copy-out-pdo Inv-loop μ-loop
 array-copy-out-pdo c = search needs
 
--- src/records.rt:110:27
 pdo-requires : tie.Need-pdo-requires Inv-loop μ-loop
 pdo-requires c κs = search needs
 
--- src/records.rt:110:26
 slice-aggregate-record-2 : tie.Need-slice-aggregate-record-2 Inv-loop μ-loop
 slice-aggregate-record-2 c = search needs
 
--- src/records.rt:110:9
 record-requires-2 : tie.Need-record-requires-2 Inv-loop μ-loop
 record-requires-2 c κs = search needs
 
--- src/records.rt:111:9
 add-i : tie.Need-add-i Inv-loop μ-loop
 add-i c = search needs
 
--- src/records.rt:109:5
 loop-less : tie.Need-loop-less Inv-loop μ-loop
 loop-less c = search needs
 
--- src/records.rt:109:5
 loop-again : tie.Need-loop-again Inv-loop μ-loop
 loop-again c = search needs
 
--- src/records.rt:103:1
 returns : tie.Need-returns Inv-loop μ-loop
 returns c = search needs
 

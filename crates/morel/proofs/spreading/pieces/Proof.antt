@@ -1,16 +1,8 @@
+-- `morel::spreading::pieces` is safe and ends: the areas that are left fall.
 use borrow.Author.Needs.{needs}
-use lib.ListN.{length}
-use Prim.Native.Nat.{_≤_, _<_, _+_, _-_, _*_}
+use Prim.Native.Nat.{_-_}
 use Rattle.morel.proofs.spreading.pieces.Statement.{statement}
 use Rattle.morel.proofs.spreading.pieces.Tie as tie
-use Rattle.morel.proofs.spreading.pieces.Reads as reads
-use Rattle.morel.proofs.spreading.pieces.Lts as lts
-use Rattle.morel.proofs.spreading.piece.Reads as piece-reads
-use Rattle.morel.proofs.text.back.Reads as back-reads
-use Rattle.morel.proofs.text.record.Reads as record-reads
-use Rattle.std.proofs.num.wrapping_add_usize.Reads as wrapping-add-usize-reads
-use Rattle.std.proofs.num.wrapping_sub_usize.Reads as wrapping-sub-usize-reads
-use Rattle.wire.proofs.lesser.Reads as lesser-reads
 
 abbrev Inv-loop : tie.InvT-loop
 Inv-loop areas size last states n at₀ sent₀ i₀ at sent i = Unit {0}
@@ -18,67 +10,51 @@ Inv-loop areas size last states n at₀ sent₀ i₀ at sent i = Unit {0}
 abbrev μ-loop : tie.MeasureT-loop
 μ-loop areas size last states n at₀ sent₀ i₀ at sent i = n - i
 
--- src/spreading.rt:63:9
 lesser-requires : tie.Need-lesser-requires Inv-loop μ-loop
 lesser-requires c κs = search needs
 
--- src/spreading.rt:64:15
 slice-aggregate-record : tie.Need-slice-aggregate-record Inv-loop μ-loop
 slice-aggregate-record c = search needs
 
--- src/spreading.rt:64:31
 slice-aggregate-record-2 : tie.Need-slice-aggregate-record-2 Inv-loop μ-loop
 slice-aggregate-record-2 c = search needs
 
--- src/spreading.rt:64:5
 record-requires : tie.Need-record-requires Inv-loop μ-loop
 record-requires c κs = search needs
 
--- src/spreading.rt:68:5
 loop-holds : tie.Need-loop-holds Inv-loop μ-loop
 loop-holds c = search needs
 
--- src/spreading.rt:69:17
 mul-b : tie.Need-mul-b Inv-loop μ-loop
 mul-b c = search needs
 
--- src/spreading.rt:69:17
 array-copy-out-b : tie.Need-array-copy-out-b Inv-loop μ-loop
 array-copy-out-b c = search needs
 
--- src/spreading.rt:71:30
 back-requires : tie.Need-back-requires Inv-loop μ-loop
 back-requires c κs = search needs
 
--- src/spreading.rt:71:9
 piece-requires : tie.Need-piece-requires Inv-loop μ-loop
 piece-requires c κs = search needs
 
--- src/spreading.rt:72:9
 wrapping-add-usize-requires : tie.Need-wrapping-add-usize-requires Inv-loop μ-loop
 wrapping-add-usize-requires c κs = search needs
 
--- src/spreading.rt:73:41
 wrapping-sub-usize-requires : tie.Need-wrapping-sub-usize-requires Inv-loop μ-loop
 wrapping-sub-usize-requires c κs = search needs
 
--- src/spreading.rt:73:9
 wrapping-add-usize-requires-2 : tie.Need-wrapping-add-usize-requires-2 Inv-loop μ-loop
 wrapping-add-usize-requires-2 c κs = search needs
 
--- src/spreading.rt:74:9
 add-i : tie.Need-add-i Inv-loop μ-loop
 add-i c = search needs
 
--- src/spreading.rt:68:5
 loop-less : tie.Need-loop-less Inv-loop μ-loop
 loop-less c = search needs
 
--- src/spreading.rt:68:5
 loop-again : tie.Need-loop-again Inv-loop μ-loop
 loop-again c = search needs
 
--- src/spreading.rt:61:1
 returns : tie.Need-returns Inv-loop μ-loop
 returns c = search needs
 

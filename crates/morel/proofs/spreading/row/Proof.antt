@@ -1,27 +1,22 @@
+-- `morel::spreading::row` is safe: both factors were tested, so the product fits.
 use borrow.Author.Needs.{needs}
 use native.Mathlib.Nat.{mul-le-mul}
 use native.Mathlib.Omega.{arith}
 use Prim.Native.Nat.{_*_, _≤_}
 use Rattle.morel.proofs.spreading.row.Statement.{statement}
 use Rattle.morel.proofs.spreading.row.Tie as tie
-use Rattle.morel.proofs.spreading.row.Reads as reads
-use Rattle.morel.proofs.spreading.row.Lts as lts
 
--- src/spreading.rt:78:10
 mul-result : tie.Need-mul-result
 mul-result c =
     let m : (c .before .before .args .size) * (c .before .before .args .areas) ≤ 2047 * 32 = mul-le-mul (c .before .if1 .left) (c .if2 .left) in
     omega (arith, m)
 
--- src/spreading.rt:72:1
 returns : tie.Need-returns
 returns c = search needs
 
--- src/spreading.rt:72:1
 returns-2 : tie.Need-returns-2
 returns-2 c = search needs
 
--- src/spreading.rt:72:1
 returns-3 : tie.Need-returns-3
 returns-3 c = search needs
 

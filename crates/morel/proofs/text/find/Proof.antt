@@ -1,10 +1,9 @@
+-- `morel::text::find` is safe and ends: the bytes that are left fall.
 use borrow.Author.Needs.{needs}
 use lib.ListN.{length}
-use Prim.Native.Nat.{_≤_, _<_, _+_, _-_, _*_}
+use Prim.Native.Nat.{_-_}
 use Rattle.morel.proofs.text.find.Statement.{statement}
 use Rattle.morel.proofs.text.find.Tie as tie
-use Rattle.morel.proofs.text.find.Reads as reads
-use Rattle.morel.proofs.text.find.Lts as lts
 
 abbrev Inv-loop : tie.InvT-loop
 Inv-loop s from mark i₀ i = Unit {0}
@@ -12,31 +11,24 @@ Inv-loop s from mark i₀ i = Unit {0}
 abbrev μ-loop : tie.MeasureT-loop
 μ-loop s from mark i₀ i = length s - i
 
--- src/text.rt:62:5
 loop-holds : tie.Need-loop-holds Inv-loop μ-loop
 loop-holds c = search needs
 
--- src/text.rt:63:12
 shared-slice-read-if1 : tie.Need-shared-slice-read-if1 Inv-loop μ-loop
 shared-slice-read-if1 c = search needs
 
--- src/text.rt:64:13
 returns : tie.Need-returns Inv-loop μ-loop
 returns c = search needs
 
--- src/text.rt:66:9
 add-i : tie.Need-add-i Inv-loop μ-loop
 add-i c = search needs
 
--- src/text.rt:62:5
 loop-less : tie.Need-loop-less Inv-loop μ-loop
 loop-less c = search needs
 
--- src/text.rt:62:5
 loop-again : tie.Need-loop-again Inv-loop μ-loop
 loop-again c = search needs
 
--- src/text.rt:60:1
 returns-2 : tie.Need-returns-2 Inv-loop μ-loop
 returns-2 c = search needs
 

@@ -1,12 +1,9 @@
+-- `morel::text::plain` is safe and ends: the bytes that are left fall.
 use borrow.Author.Needs.{needs}
 use lib.ListN.{length}
-use Prim.Native.Nat.{_≤_, _<_, _+_, _-_, _*_}
+use Prim.Native.Nat.{_-_}
 use Rattle.morel.proofs.text.plain.Statement.{statement}
 use Rattle.morel.proofs.text.plain.Tie as tie
-use Rattle.morel.proofs.text.plain.Reads as reads
-use Rattle.morel.proofs.text.plain.Lts as lts
-use Rattle.morel.proofs.text.glyph.Reads as glyph-reads
-use Rattle.morel.proofs.text.say.Reads as say-reads
 
 abbrev Inv-loop : tie.InvT-loop
 Inv-loop text i₀ t3 i = Unit {0}
@@ -14,39 +11,30 @@ Inv-loop text i₀ t3 i = Unit {0}
 abbrev μ-loop : tie.MeasureT-loop
 μ-loop text i₀ t3 i = length text - i
 
--- src/text.rt:136:5
 loop-holds : tie.Need-loop-holds Inv-loop μ-loop
 loop-holds c = search needs
 
--- src/text.rt:137:15
 shared-slice-read-glyph : tie.Need-shared-slice-read-glyph Inv-loop μ-loop
 shared-slice-read-glyph c = search needs
 
--- src/text.rt:137:9
 glyph-requires : tie.Need-glyph-requires Inv-loop μ-loop
 glyph-requires c κs = search needs
 
--- src/text.rt:138:9
 add-i : tie.Need-add-i Inv-loop μ-loop
 add-i c = search needs
 
--- src/text.rt:136:5
 loop-less : tie.Need-loop-less Inv-loop μ-loop
 loop-less c = search needs
 
--- src/text.rt:136:5
 loop-again : tie.Need-loop-again Inv-loop μ-loop
 loop-again c = search needs
 
--- src/text.rt:140:9
 slice-aggregate-say : tie.Need-slice-aggregate-say Inv-loop μ-loop
 slice-aggregate-say c = search needs
 
--- src/text.rt:140:5
 say-requires : tie.Need-say-requires Inv-loop μ-loop
 say-requires c κs = search needs
 
--- src/text.rt:134:1
 returns : tie.Need-returns Inv-loop μ-loop
 returns c = search needs
 

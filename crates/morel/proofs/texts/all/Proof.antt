@@ -1,12 +1,8 @@
+-- `morel::texts::all` is safe and ends: the strings that are left fall.
 use borrow.Author.Needs.{needs}
-use lib.ListN.{length}
-use Prim.Native.Nat.{_≤_, _<_, _+_, _-_, _*_}
+use Prim.Native.Nat.{_-_}
 use Rattle.morel.proofs.texts.all.Statement.{statement}
 use Rattle.morel.proofs.texts.all.Tie as tie
-use Rattle.morel.proofs.texts.all.Reads as reads
-use Rattle.morel.proofs.texts.all.Lts as lts
-use Rattle.morel.proofs.text.record.Reads as record-reads
-use Rattle.morel.proofs.texts.string.Reads as string-reads
 
 abbrev Inv-loop : tie.InvT-loop
 Inv-loop image count i₀ t5 i = Unit {0}
@@ -14,43 +10,33 @@ Inv-loop image count i₀ t5 i = Unit {0}
 abbrev μ-loop : tie.MeasureT-loop
 μ-loop image count i₀ t5 i = count - i
 
--- src/texts.rt:44:15
 slice-aggregate-record : tie.Need-slice-aggregate-record Inv-loop μ-loop
 slice-aggregate-record c = search needs
 
--- src/texts.rt:44:29
 slice-aggregate-record-2 : tie.Need-slice-aggregate-record-2 Inv-loop μ-loop
 slice-aggregate-record-2 c = search needs
 
--- src/texts.rt:44:5
 record-requires : tie.Need-record-requires Inv-loop μ-loop
 record-requires c κs = search needs
 
--- src/texts.rt:46:5
 loop-holds : tie.Need-loop-holds Inv-loop μ-loop
 loop-holds c = search needs
 
--- src/texts.rt:47:9
 add-i : tie.Need-add-i Inv-loop μ-loop
 add-i c = search needs
 
--- src/texts.rt:48:34
 slice-aggregate-string : tie.Need-slice-aggregate-string Inv-loop μ-loop
 slice-aggregate-string c = search needs
 
--- src/texts.rt:48:9
 string-requires : tie.Need-string-requires Inv-loop μ-loop
 string-requires c κs = search needs
 
--- src/texts.rt:46:5
 loop-less : tie.Need-loop-less Inv-loop μ-loop
 loop-less c = search needs
 
--- src/texts.rt:46:5
 loop-again : tie.Need-loop-again Inv-loop μ-loop
 loop-again c = search needs
 
--- src/texts.rt:43:1
 returns : tie.Need-returns Inv-loop μ-loop
 returns c = search needs
 
