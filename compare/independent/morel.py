@@ -5,10 +5,9 @@ stands in this folder; `alias` changes the file there.
 """
 
 import os
-import struct
 
-from . import category, crc, eeprom, frames, sii, spread, strings
-from .refusal import ABSENT, BAD_ARGUMENT, CAPACITY, Refusal, refuse_unless
+from . import category, eeprom, frames, setup, sii, spread, strings
+from .refusal import ABSENT, BAD_ARGUMENT, Refusal, refuse_unless
 
 COLUMN = 28
 
@@ -125,32 +124,7 @@ def listed(label, item, kinds, call, *arguments):
     return lines
 
 
-# --- What the SII holds beside what document 01 has read out (ETG2010) ---
-
-
-def words_at(image, word, count):
-    eeprom.check_image(image)
-    return struct.unpack(f"<{count}H", eeprom.stored(image, 2 * word, 2 * count))
-
-
-def checksum(image):
-    """Stored and computed."""
-    eeprom.check_image(image)
-    head = eeprom.stored(image, 0, 16)
-    return head[14], crc.crc(head[:14])
-
-
-def clock_modes(image):
-    """Records of 24 bytes, at most 8; a partial last one ends the list."""
-    at = category.category(image, category.CLOCK)
-    modes = []
-    while at is not ABSENT and at.left() >= 24:
-        record = bytearray(24)
-        eeprom.read_exact(image, at, record)
-        refuse_unless(len(modes) < 8, CAPACITY)
-        modes.append(struct.unpack("<3I3HBB4x", record))
-    return modes
-
+# --- An image ---
 
 MAILBOX = (
     ("mailbox receive offset", hex16), ("mailbox receive size", str),
@@ -191,7 +165,7 @@ CLOCK = (
 
 
 def checksum_lines(image):
-    stored, computed = checksum(image)
+    stored, computed = setup.checksum(image)
     return [line("checksum", "right" if stored == computed else "wrong"),
             line("checksum stored", hex8(stored)),
             line("checksum computed", hex8(computed))]
@@ -223,13 +197,13 @@ def string_lines(image):
 def sii_lines(image):
     return (
         one("sii bytes", str, sii.size, image)
-        + fields("sii version", (("sii version", str),), words_at, image,
-                 0x3F, 1)
+        + fields("sii version", (("sii version", str),), setup.version,
+                 image)
         + checksum_lines(image)
         + one("alias", str, sii.alias, image)
-        + fields("pdi control", PDI, words_at, image, 0, 4)
+        + fields("pdi control", PDI, setup.pdi, image)
         + fields("identity", IDENTITY, sii.identity, image)
-        + fields("bootstrap", BOOTSTRAP, words_at, image, 0x14, 4)
+        + fields("bootstrap", BOOTSTRAP, setup.bootstrap_mailbox, image)
         + fields("mailbox", MAILBOX, sii.mailbox, image)
         + fields("general", GENERAL, sii.general, image)
         + string_line("device name", strings.device_name, image)
@@ -243,7 +217,7 @@ def sii_lines(image):
                  sii.extended_fmmus, image)
         + listed("tx pdos", "tx pdo", PDO, sii.pdos, image, category.TX_PDO)
         + listed("rx pdos", "rx pdo", PDO, sii.pdos, image, category.RX_PDO)
-        + listed("clock modes", "clock mode", CLOCK, clock_modes, image))
+        + listed("clock modes", "clock mode", CLOCK, setup.clocks, image))
 
 
 # --- Frames ---

@@ -1,6 +1,8 @@
 """The table of requests: for each, the kinds of its words and its answer."""
 
-from . import category, crc, eeprom, frames, ports, sii, spread, strings
+from . import (
+    category, crc, eeprom, frames, ports, setup, sii, spread, strings,
+)
 from .lines import (
     UNREADABLE, Unreadable, active, chunk, counted, data, lent, nothing,
     record, said, u8, u16, u32,
@@ -160,6 +162,31 @@ def _pdos(image, _chunk, number):
     if number not in (category.TX_PDO, category.RX_PDO):
         return UNREADABLE
     return said(counted(sii.pdos), image, number)
+
+
+@request(b"pdi", *IMAGE)
+def _pdi(image, _chunk):
+    return said(setup.pdi, image)
+
+
+@request(b"bootmail", *IMAGE)
+def _bootstrap_mailbox(image, _chunk):
+    return said(setup.bootstrap_mailbox, image)
+
+
+@request(b"version", *IMAGE)
+def _version(image, _chunk):
+    return said(setup.version, image)
+
+
+@request(b"checksum", *IMAGE)
+def _checksum(image, _chunk):
+    return said(setup.checksum, image)
+
+
+@request(b"clocks", *IMAGE)
+def _clocks(image, _chunk):
+    return said(counted(setup.clocks), image)
 
 
 @request(b"string", *IMAGE, u8, data)

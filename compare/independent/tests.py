@@ -502,6 +502,40 @@ class Lists(Case):
         self.says("pdos - 4 10", "refuses 14")
 
 
+class Setup(Case):
+    """What ethercrab leaves unread. bench.txt has the plain cases."""
+
+    CLOCK = bytes.fromhex("01000000 02000000 03000000 0400 0500 0600 07 08"
+                          " 09090909".replace(" ", ""))
+
+    def test_past_the_image(self):
+        self.says("pdi 01 4", "gives 65281 65535 65535 65535")
+        self.says("bootmail " + "00" * 41 + " 8",
+                  "gives 65280 65535 65535 65535")
+        self.says("version " + "00" * 127 + " 4", "gives 65280")
+
+    def test_checksum(self):
+        # Eight zero bytes read as such, the rest as 0xFF.
+        filled = crc(bytes(8) + b"\xff" * 6)
+        self.says("checksum " + "00" * 8 + " 4", f"gives 255 {filled}")
+
+    def test_checksum_after_the_alias_is_set(self):
+        answer = ask("setalias " + bytes(range(16)).hex() + " 4660")
+        stored, computed = ask("checksum " + answer.split(" | ")[1]
+                               + " 4").split()[1:]
+        self.assertEqual(stored, computed)
+
+    def test_clocks(self):
+        one = " 1 2 3 4 5 6 7 8"
+        self.says("clocks - 4", "gives 0")
+        self.says(f"clocks {image((60, self.CLOCK * 8))} 4",
+                  "gives 8" + one * 8)
+        self.says(f"clocks {image((60, self.CLOCK * 8 + bytes(22)))} 4",
+                  "gives 8" + one * 8)
+        self.says(f"clocks {image((60, self.CLOCK * 9))} 8", "refuses 6")
+        self.says("clocks " + "00" * 129 + " 4", "refuses 1")
+
+
 class Strings(Case):
     def test_index_0(self):
         self.says("string - 4 0 ee", "absent | ee")
@@ -1102,7 +1136,9 @@ class Lines(Case):
                 "write 00 0 2 00", "category 00 4 10", "alias 00 4",
                 "size 00 4", "setalias 00 1", "identity 00 4", "mailbox 00 4",
                 "general 00 4", "sms 00 4", "fmmus 00 4", "fmmuex 00 4",
-                "pdos 00 4 50", "string 00 4 1 00", "name 00 4 00",
+                "pdos 00 4 50", "pdi 00 4", "bootmail 00 4", "version 00 4",
+                "checksum 00 4", "clocks 00 4",
+                "string 00 4 1 00", "name 00 4 00",
                 "desc 00 4 00", f"entry {ALL_FOUR}", f"last {ALL_FOUR}",
                 f"topology {ALL_FOUR}", f"total {ALL_FOUR}",
                 f"timeto {ALL_FOUR} 1", f"between {ALL_FOUR} 1",

@@ -217,7 +217,8 @@ def silent(request):
     if request is None:
         return False
     kind = request.kind
-    if kind in ("frame", "spread"):
+    if kind in ("frame", "spread", "pdi", "bootmail", "version", "checksum",
+                "clocks"):
         return True
     if kind in ("skip", "byte", "read", "exact", "write"):
         return request.end % 2 == 1

@@ -57,6 +57,7 @@ fn answer(mut words: Words) -> Reply {
         b"fmmus" => sii::fmmus(words),
         b"fmmuex" => sii::fmmu_mappings(words),
         b"pdos" => sii::pdos(words),
+        b"pdi" | b"bootmail" | b"version" | b"checksum" | b"clocks" => sii::unread(words),
         b"string" => strings::string(words),
         b"name" => strings::name(words),
         b"desc" => strings::description(words),

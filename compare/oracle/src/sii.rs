@@ -160,3 +160,9 @@ pub fn pdos(mut words: Words) -> Reply {
         list(&pdos, |pdo| [pdo.index.into(), pdo.num_entries.into(), pdo.sync_manager.into(), pdo.bit_len.into()])
     }))
 }
+
+/// What the Rust leaves unread of an image: it has no answer.
+pub fn unread(words: Words) -> Reply {
+    only_image(words)?;
+    Err(Off::None)
+}

@@ -7,9 +7,10 @@ used as a library, so that a request can go on from the answer before it.
 
 import random
 
-from . import frames, malformed, ports, ranges, sii, spread, strings
+from . import frames, malformed, ports, ranges, setup, sii, spread, strings
 
-# Each topic with its share of the requests, in hundredths.
+# Each topic with its share of the requests, in hundredths. Those of `setup`
+# come on top: the Rust has no answer to them.
 TOPICS = (
     (ranges, 16),
     (sii, 22),
@@ -18,6 +19,7 @@ TOPICS = (
     (frames, 18),
     (spread, 8),
     (malformed, 6),
+    (setup, 6),
 )
 
 

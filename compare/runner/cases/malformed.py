@@ -1,9 +1,9 @@
 """Lines that can't be read, and lines that only just can."""
 
 from ..request import WORDS, line
-from . import frames, ports, ranges, sii, spread, strings
+from . import frames, ports, ranges, setup, sii, spread, strings
 
-OTHERS = (ranges, sii, strings, ports, frames, spread)
+OTHERS = (ranges, sii, strings, ports, frames, spread, setup)
 PAIRS_LIMIT = 131_072
 
 WRONG = (b"", b"-", b"--", b"+1", b"-1", b"1x", b"0x1", b"1.0", b"1_0", b"2",

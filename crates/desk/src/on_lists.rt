@@ -49,7 +49,7 @@ pub(crate) fn answer(name: u64, nums: &[u64], image: &[u8], row: &mut [u64]) -> 
 }
 
 // The answer, where the row has a list's numbers up to here.
-fn listed(row: &mut [u64], answer: ListAnswer, values: usize) -> Reply {
+pub(crate) fn listed(row: &mut [u64], answer: ListAnswer, values: usize) -> Reply {
     match answer {
         ListAnswer::Listed => gives_row(values),
         ListAnswer::No(x) => refuses(row, x),

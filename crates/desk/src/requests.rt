@@ -5,6 +5,7 @@ use crate::on_frames;
 use crate::on_lists;
 use crate::on_ports;
 use crate::on_range;
+use crate::on_setup;
 use crate::on_sii;
 use crate::on_spread;
 use crate::on_strings;
@@ -26,6 +27,8 @@ const FRAMES: u8 = 5;
 const SPREADING: u8 = 6;
 
 const LISTS: u8 = 7;
+
+const SETUP: u8 = 8;
 
 struct Request {
     topic: u8,
@@ -62,6 +65,13 @@ fn asked(name: u64) -> Request {
             shape: lists,
         };
     }
+    let setup = on_setup::shape(name);
+    if setup != 0 {
+        return Request {
+            topic: SETUP,
+            shape: setup,
+        };
+    }
     let ports = on_ports::shape(name);
     if ports != 0 {
         return Request {
@@ -96,6 +106,7 @@ fn act(
         SII => on_sii::answer(name, nums, first, row),
         STRINGS => on_strings::answer(name, nums, first, second, row),
         LISTS => on_lists::answer(name, nums, first, row),
+        SETUP => on_setup::answer(name, nums, first, row),
         PORTS => on_ports::answer(name, nums, first, row),
         FRAMES => on_frames::answer(name, nums, first, second, row),
         _ => on_spread::answer(nums, first, second, row),

@@ -18,6 +18,7 @@ use sii::SizeAnswer;
 
 pub(crate) fn print(image: &[u8]) {
     fixed(image);
+    identity_and_mailboxes(image);
     record(
         0,
         b"general,dgeneral group string,dgeneral image string,dgeneral order string,dgeneral name string,fgeneral coe details=sdo sdo-info pdo-assign pdo-config startup-upload complete-access,ngeneral foe=no yes,ngeneral eoe=no yes,fgeneral flags=enable-safe-op enable-not-lrw mailbox-dll ident-al-status ident-phy-m,sgeneral ebus current,vgeneral port 0=Unused Mii Reserved Ebus FastHotConnect,vgeneral port 1=Unused Mii Reserved Ebus FastHotConnect,vgeneral port 2=Unused Mii Reserved Ebus FastHotConnect,vgeneral port 3=Unused Mii Reserved Ebus FastHotConnect,4general physical address",
@@ -41,6 +42,9 @@ fn fixed(image: &[u8]) {
         b"pdi control,4pdi control,4pdi configuration,dsync impulse length,4pdi configuration 2",
         &pdi(image),
     );
+}
+
+fn identity_and_mailboxes(image: &[u8]) {
     record(
         0,
         b"identity,8vendor,8product,8revision,8serial",

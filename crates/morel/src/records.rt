@@ -15,6 +15,12 @@ use wire::lesser;
 
 pub(crate) fn print(image: &[u8]) {
     sync_managers(lists::sync_managers(image, Chunk::Eight));
+    print_fmmus(image);
+    print_pdos(image);
+    clocks(clock::distributed_clocks(image, Chunk::Eight));
+}
+
+fn print_fmmus(image: &[u8]) {
     fmmus(
         b"fmmus,dfmmus",
         b",vfmmu # usage=Unused Outputs Inputs SyncManagerStatus",
@@ -25,6 +31,9 @@ pub(crate) fn print(image: &[u8]) {
         b",dfmmu # sync manager",
         lists::fmmu_mappings(image, Chunk::Eight),
     );
+}
+
+fn print_pdos(image: &[u8]) {
     pdos(
         b"tx pdos,dtx pdos",
         b",4tx pdo # index,dtx pdo # entries,dtx pdo # sync manager,dtx pdo # bits",
@@ -35,7 +44,6 @@ pub(crate) fn print(image: &[u8]) {
         b",4rx pdo # index,drx pdo # entries,drx pdo # sync manager,drx pdo # bits",
         lists::maindevice_write_pdos(image, Chunk::Eight),
     );
-    clocks(clock::distributed_clocks(image, Chunk::Eight));
 }
 
 // The row of a list's first line.

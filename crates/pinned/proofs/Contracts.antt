@@ -6,7 +6,7 @@ use prog.Routine.{Routine}
 use prog.Wp.{Heap}
 use ghost.Atoms.{Atoms}
 use contract.Monad.{Fun, fact, factI, fact-use}
-use Rattle.pinned.specs.Contracts.{RefusalContracts, WireContracts, CrcContracts, EepromContracts, CategoryContracts, SiiContracts, ListsContracts, StringsContracts, PortsContracts, PduContracts, CreatedFrameContracts, FrameReaderContracts, SpreadContracts, LinesContracts, HeldContracts, EveryContract}
+use Rattle.pinned.specs.Contracts.{RefusalContracts, WireContracts, CrcContracts, EepromContracts, CategoryContracts, SiiContracts, SetupContracts, ListsContracts, ClockContracts, StringsContracts, PortsContracts, PduContracts, CreatedFrameContracts, FrameReaderContracts, SpreadContracts, LinesContracts, HeldContracts, EveryContract}
 
 -- two facts side by side are one
 pub two : {M : Type 1} (𝓤 : URA M) (P Q : Type 0) → ent 𝓤 (sep 𝓤 (fact 𝓤 P) (fact 𝓤 Q)) (fact 𝓤 (P × Q))
@@ -73,6 +73,14 @@ module _ {M : Type 1} (𝓤 : URA M) (H : Heap 𝓤) (A : Atoms 𝓤) (mem : Mem
     «find_general» = λ κs a g r e. id⊢ 𝓤 _;
   }
 
+  pub setup-contracts : SetupContracts 𝓤 H A mem run
+  setup-contracts = record {
+    «pdi_control» = λ κs a g r e. id⊢ 𝓤 _;
+    «bootstrap_mailbox» = λ κs a g r e. id⊢ 𝓤 _;
+    «version» = λ κs a g r e. id⊢ 𝓤 _;
+    «checksum» = λ κs a g r e. id⊢ 𝓤 _;
+  }
+
   pub lists-contracts : ListsContracts 𝓤 H A mem run
   lists-contracts = record {
     «sync_managers» = λ κs a g r e. id⊢ 𝓤 _;
@@ -80,6 +88,11 @@ module _ {M : Type 1} (𝓤 : URA M) (H : Heap 𝓤) (A : Atoms 𝓤) (mem : Mem
     «fmmu_mappings» = λ κs a g r e. id⊢ 𝓤 _;
     «maindevice_read_pdos» = λ κs a g r e. id⊢ 𝓤 _;
     «maindevice_write_pdos» = λ κs a g r e. id⊢ 𝓤 _;
+  }
+
+  pub clock-contracts : ClockContracts 𝓤 H A mem run
+  clock-contracts = record {
+    «distributed_clocks» = λ κs a g r e. id⊢ 𝓤 _;
   }
 
   pub strings-contracts : StringsContracts 𝓤 H A mem run
@@ -166,7 +179,9 @@ module _ {M : Type 1} (𝓤 : URA M) (H : Heap 𝓤) (A : Atoms 𝓤) (mem : Mem
     eeprom = eeprom-contracts;
     category = category-contracts;
     sii = sii-contracts;
+    setup = setup-contracts;
     lists = lists-contracts;
+    clock = clock-contracts;
     strings = strings-contracts;
     ports = ports-contracts;
     pdu = pdu-contracts;

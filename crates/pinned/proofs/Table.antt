@@ -9,8 +9,12 @@ use Rattle.category.specs.Answers.{saidFound as saidCategory}
 use Rattle.category.proofs.Unique.{found-unique as category-unique}
 use Rattle.sii.specs.Answers.{saidAlias, saidSet, saidIdentity, saidMailbox, saidSize, saidGeneral, saidFound}
 use Rattle.sii.proofs.Unique.{alias-unique, set-unique, identity-unique, mailbox-unique, size-unique, general-unique, found-unique}
+use Rattle.setup.specs.Answers.{saidPdi, saidBootstrap, saidVersion, saidChecksum}
+use Rattle.setup.proofs.Unique.{pdi-unique, bootstrap-unique, version-unique, checksum-unique}
 use Rattle.lists.specs.Answers.{backSms, backFmmus, backPdos}
 use Rattle.lists.proofs.Unique.{sms-unique, fmmus-unique, pdos-unique}
+use Rattle.clock.specs.Answers.{backClocks}
+use Rattle.clock.proofs.Unique.{clocks-unique}
 use Rattle.strings.specs.Answers.{saidString}
 use Rattle.strings.proofs.Unique.{string-unique}
 use Rattle.ports.specs.Answers.{saidPort, saidTime, saidTopology, saidText}
@@ -33,7 +37,7 @@ use Rattle.held.specs.Answers.{saidOutcome, saidByteRead, saidCounted}
 use Rattle.held.proofs.Unique.{outcome-unique, byte-read-unique, counted-unique}
 use Rattle.pinned.specs.Pinned.{Pinned, With}
 use Rattle.pinned.specs.Held.{RangeBuf}
-use Rattle.pinned.specs.Table.{RefusalPinned, WirePinned, CrcPinned, EepromPinned, CategoryPinned, SiiPinned, ListsPinned, StringsPinned, PortsPinned, PduPinned, CreatedFramePinned, FrameReaderPinned, SpreadPinned, LinesPinned, HeldPinned, EveryCall}
+use Rattle.pinned.specs.Table.{RefusalPinned, WirePinned, CrcPinned, EepromPinned, CategoryPinned, SiiPinned, SetupPinned, ListsPinned, ClockPinned, StringsPinned, PortsPinned, PduPinned, CreatedFramePinned, FrameReaderPinned, SpreadPinned, LinesPinned, HeldPinned, EveryCall}
 use Rattle.pinned.proofs.Laws.{Unique, equal-pinned, said-pinned, parts-pinned, lent-pinned, said-lent-pinned}
 
 pub refusal-pinned : RefusalPinned
@@ -82,6 +86,14 @@ sii-pinned = record {
   «find_general» = λ image chunk. said-pinned saidFound found-unique _;
 }
 
+pub setup-pinned : SetupPinned
+setup-pinned = record {
+  «pdi_control» = λ image chunk. said-pinned saidPdi pdi-unique _;
+  «bootstrap_mailbox» = λ image chunk. said-pinned saidBootstrap bootstrap-unique _;
+  «version» = λ image chunk. said-pinned saidVersion version-unique _;
+  «checksum» = λ image chunk. said-pinned saidChecksum checksum-unique _;
+}
+
 pub lists-pinned : ListsPinned
 lists-pinned = record {
   «sync_managers» = λ image chunk. said-pinned backSms sms-unique _;
@@ -90,6 +102,9 @@ lists-pinned = record {
   «maindevice_read_pdos» = λ image chunk. said-pinned backPdos pdos-unique _;
   «maindevice_write_pdos» = λ image chunk. said-pinned backPdos pdos-unique _;
 }
+
+pub clock-pinned : ClockPinned
+clock-pinned = record { «distributed_clocks» = λ image chunk. said-pinned backClocks clocks-unique _ }
 
 pub strings-pinned : StringsPinned
 strings-pinned = record {
@@ -183,7 +198,9 @@ every-call = record {
   eeprom = eeprom-pinned;
   category = category-pinned;
   sii = sii-pinned;
+  setup = setup-pinned;
   lists = lists-pinned;
+  clock = clock-pinned;
   strings = strings-pinned;
   ports = ports-pinned;
   pdu = pdu-pinned;

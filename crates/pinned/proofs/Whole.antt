@@ -17,7 +17,9 @@ use Rattle.crc.proofs as of-crc
 use Rattle.eeprom.proofs as of-eeprom
 use Rattle.category.proofs as of-category
 use Rattle.sii.proofs as of-sii
+use Rattle.setup.proofs as of-setup
 use Rattle.lists.proofs as of-lists
+use Rattle.clock.proofs as of-clock
 use Rattle.strings.proofs as of-strings
 use Rattle.ports.proofs as of-ports
 use Rattle.pdu.proofs as of-pdu
@@ -28,9 +30,9 @@ use Rattle.lines.proofs as of-lines
 use Rattle.held.proofs as of-held
 use Rattle.pinned.specs.Pinned.{Pinned, With}
 use Rattle.pinned.specs.Contracts.{Promise, Says}
-use Rattle.pinned.specs.Whole.{WholeAs, Whole, RefusalWhole, WireWhole, CrcWhole, EepromWhole, CategoryWhole, SiiWhole, ListsWhole, StringsWhole, PortsWhole, PduWhole, CreatedFrameWhole, FrameReaderWhole, SpreadWhole, LinesWhole, HeldWhole, EveryWhole}
-use Rattle.pinned.proofs.Contracts.{refusal-contracts, wire-contracts, crc-contracts, eeprom-contracts, category-contracts, sii-contracts, lists-contracts, strings-contracts, ports-contracts, pdu-contracts, created-frame-contracts, frame-reader-contracts, spread-contracts, lines-contracts, held-contracts}
-use Rattle.pinned.proofs.Table.{refusal-pinned, wire-pinned, crc-pinned, eeprom-pinned, category-pinned, sii-pinned, lists-pinned, strings-pinned, ports-pinned, pdu-pinned, created-frame-pinned, frame-reader-pinned, spread-pinned, lines-pinned, held-pinned}
+use Rattle.pinned.specs.Whole.{WholeAs, Whole, RefusalWhole, WireWhole, CrcWhole, EepromWhole, CategoryWhole, SiiWhole, SetupWhole, ListsWhole, ClockWhole, StringsWhole, PortsWhole, PduWhole, CreatedFrameWhole, FrameReaderWhole, SpreadWhole, LinesWhole, HeldWhole, EveryWhole}
+use Rattle.pinned.proofs.Contracts.{refusal-contracts, wire-contracts, crc-contracts, eeprom-contracts, category-contracts, sii-contracts, setup-contracts, lists-contracts, clock-contracts, strings-contracts, ports-contracts, pdu-contracts, created-frame-contracts, frame-reader-contracts, spread-contracts, lines-contracts, held-contracts}
+use Rattle.pinned.proofs.Table.{refusal-pinned, wire-pinned, crc-pinned, eeprom-pinned, category-pinned, sii-pinned, setup-pinned, lists-pinned, clock-pinned, strings-pinned, ports-pinned, pdu-pinned, created-frame-pinned, frame-reader-pinned, spread-pinned, lines-pinned, held-pinned}
 
 -- a pinned answer and what is lent, taken apart: the last values are made of what is lent
 apart : {A B C : Type 0} (Allows : With A B → Type 0) → Pinned Allows → (last : B → C) (x y : With A B) → Allows x → Allows y → (x .answer ≡ y .answer) × (last (x .lent) ≡ last (y .lent))
@@ -137,6 +139,18 @@ module _ {M : Type 1} (𝓤 : URA M) (H : Heap 𝓤) (A : Atoms 𝓤) (mem : Mem
         (λ κs a r s ws vs p q. (sii-pinned .«find_general» (now (a .0)) (a .1 .0) r s p q, refl));
   }
 
+  pub setup-whole : SetupWhole 𝓤 H A mem run
+  setup-whole = record {
+    «pdi_control» = whole of-setup.pdi_control.ended (of-setup.pdi_control.clauses 𝓤 H A mem run) _ (setup-contracts 𝓤 H A mem run .«pdi_control»)
+        (λ κs a r s ws vs p q. (setup-pinned .«pdi_control» (now (a .0)) (a .1 .0) r s p q, refl));
+    «bootstrap_mailbox» = whole of-setup.bootstrap_mailbox.ended (of-setup.bootstrap_mailbox.clauses 𝓤 H A mem run) _ (setup-contracts 𝓤 H A mem run .«bootstrap_mailbox»)
+        (λ κs a r s ws vs p q. (setup-pinned .«bootstrap_mailbox» (now (a .0)) (a .1 .0) r s p q, refl));
+    «version» = whole of-setup.version.ended (of-setup.version.clauses 𝓤 H A mem run) _ (setup-contracts 𝓤 H A mem run .«version»)
+        (λ κs a r s ws vs p q. (setup-pinned .«version» (now (a .0)) (a .1 .0) r s p q, refl));
+    «checksum» = whole of-setup.checksum.ended (of-setup.checksum.clauses 𝓤 H A mem run) _ (setup-contracts 𝓤 H A mem run .«checksum»)
+        (λ κs a r s ws vs p q. (setup-pinned .«checksum» (now (a .0)) (a .1 .0) r s p q, refl));
+  }
+
   pub lists-whole : ListsWhole 𝓤 H A mem run
   lists-whole = record {
     «sync_managers» = whole of-lists.sync_managers.ended (of-lists.sync_managers.clauses 𝓤 H A mem run) _ (lists-contracts 𝓤 H A mem run .«sync_managers»)
@@ -149,6 +163,12 @@ module _ {M : Type 1} (𝓤 : URA M) (H : Heap 𝓤) (A : Atoms 𝓤) (mem : Mem
         (λ κs a r s ws vs p q. (lists-pinned .«maindevice_read_pdos» (now (a .0)) (a .1 .0) r s p q, refl));
     «maindevice_write_pdos» = whole of-lists.maindevice_write_pdos.ended (of-lists.maindevice_write_pdos.clauses 𝓤 H A mem run) _ (lists-contracts 𝓤 H A mem run .«maindevice_write_pdos»)
         (λ κs a r s ws vs p q. (lists-pinned .«maindevice_write_pdos» (now (a .0)) (a .1 .0) r s p q, refl));
+  }
+
+  pub clock-whole : ClockWhole 𝓤 H A mem run
+  clock-whole = record {
+    «distributed_clocks» = whole of-clock.distributed_clocks.ended (of-clock.distributed_clocks.clauses 𝓤 H A mem run) _ (clock-contracts 𝓤 H A mem run .«distributed_clocks»)
+        (λ κs a r s ws vs p q. (clock-pinned .«distributed_clocks» (now (a .0)) (a .1 .0) r s p q, refl));
   }
 
   pub strings-whole : StringsWhole 𝓤 H A mem run
@@ -278,7 +298,9 @@ module _ {M : Type 1} (𝓤 : URA M) (H : Heap 𝓤) (A : Atoms 𝓤) (mem : Mem
     eeprom = eeprom-whole;
     category = category-whole;
     sii = sii-whole;
+    setup = setup-whole;
     lists = lists-whole;
+    clock = clock-whole;
     strings = strings-whole;
     ports = ports-whole;
     pdu = pdu-whole;

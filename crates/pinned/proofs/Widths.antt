@@ -10,7 +10,7 @@ use Rattle.eeprom.specs.declared.Chunk.the-variants as chunk
 use Rattle.pinned.specs.Eeprom as eeprom
 use Rattle.pinned.specs.Widths.{EepromWidths, ReadOutWidths, HeldWidths, EveryWidth}
 use Rattle.pinned.proofs.Laws.{width-free}
-use Rattle.pinned.proofs.Table.{eeprom-pinned, category-pinned, sii-pinned, lists-pinned, strings-pinned, held-pinned}
+use Rattle.pinned.proofs.Table.{eeprom-pinned, category-pinned, sii-pinned, setup-pinned, lists-pinned, clock-pinned, strings-pinned, held-pinned}
 
 -- the first four bytes of a chunk are those of the narrow one
 narrow : (image : List ℕ) (word : ℕ) (c : Chunk) → take 4 (chunkOf image word (widthOf c)) ≡ span image (2 * word) 4
@@ -41,11 +41,16 @@ read-out-widths = record {
   «size» = λ image. width-free _ (sii-pinned .«size» image chunk.Four);
   «general» = λ image. width-free _ (sii-pinned .«general» image chunk.Four);
   «find_general» = λ image. width-free _ (sii-pinned .«find_general» image chunk.Four);
+  «pdi_control» = λ image. width-free _ (setup-pinned .«pdi_control» image chunk.Four);
+  «bootstrap_mailbox» = λ image. width-free _ (setup-pinned .«bootstrap_mailbox» image chunk.Four);
+  «version» = λ image. width-free _ (setup-pinned .«version» image chunk.Four);
+  «checksum» = λ image. width-free _ (setup-pinned .«checksum» image chunk.Four);
   «sync_managers» = λ image. width-free _ (lists-pinned .«sync_managers» image chunk.Four);
   «fmmus» = λ image. width-free _ (lists-pinned .«fmmus» image chunk.Four);
   «fmmu_mappings» = λ image. width-free _ (lists-pinned .«fmmu_mappings» image chunk.Four);
   «maindevice_read_pdos» = λ image. width-free _ (lists-pinned .«maindevice_read_pdos» image chunk.Four);
   «maindevice_write_pdos» = λ image. width-free _ (lists-pinned .«maindevice_write_pdos» image chunk.Four);
+  «distributed_clocks» = λ image. width-free _ (clock-pinned .«distributed_clocks» image chunk.Four);
   «find_string» = λ image index room. width-free _ (strings-pinned .«find_string» image chunk.Four index room);
   «device_name» = λ image room. width-free _ (strings-pinned .«device_name» image chunk.Four room);
   «device_description» = λ image room. width-free _ (strings-pinned .«device_description» image chunk.Four room);

@@ -17,7 +17,9 @@ use Rattle.crc.proofs as of-crc
 use Rattle.eeprom.proofs as of-eeprom
 use Rattle.category.proofs as of-category
 use Rattle.sii.proofs as of-sii
+use Rattle.setup.proofs as of-setup
 use Rattle.lists.proofs as of-lists
+use Rattle.clock.proofs as of-clock
 use Rattle.strings.proofs as of-strings
 use Rattle.ports.proofs as of-ports
 use Rattle.pdu.proofs as of-pdu
@@ -86,12 +88,21 @@ module _ {M : Type 1} (𝓤 : URA M) (H : Heap 𝓤) (A : Atoms 𝓤) (mem : Mem
     pub «general» : Says of-sii.general.ended (of-sii.general.clauses 𝓤 H A mem run) (λ κs a r e. read-out.General (now (a .0)) (a .1 .0) r)
     pub «find_general» : Says of-sii.find_general.ended (of-sii.find_general.clauses 𝓤 H A mem run) (λ κs a r e. read-out.FindGeneral (now (a .0)) (a .1 .0) r)
 
+  pub record SetupContracts : Type 1 where
+    pub «pdi_control» : Says of-setup.pdi_control.ended (of-setup.pdi_control.clauses 𝓤 H A mem run) (λ κs a r e. read-out.PdiControl (now (a .0)) (a .1 .0) r)
+    pub «bootstrap_mailbox» : Says of-setup.bootstrap_mailbox.ended (of-setup.bootstrap_mailbox.clauses 𝓤 H A mem run) (λ κs a r e. read-out.BootstrapMailbox (now (a .0)) (a .1 .0) r)
+    pub «version» : Says of-setup.version.ended (of-setup.version.clauses 𝓤 H A mem run) (λ κs a r e. read-out.Version (now (a .0)) (a .1 .0) r)
+    pub «checksum» : Says of-setup.checksum.ended (of-setup.checksum.clauses 𝓤 H A mem run) (λ κs a r e. read-out.Checksum (now (a .0)) (a .1 .0) r)
+
   pub record ListsContracts : Type 1 where
     pub «sync_managers» : Says of-lists.sync_managers.ended (of-lists.sync_managers.clauses 𝓤 H A mem run) (λ κs a r e. read-out.SyncManagers (now (a .0)) (a .1 .0) r)
     pub «fmmus» : Says of-lists.fmmus.ended (of-lists.fmmus.clauses 𝓤 H A mem run) (λ κs a r e. read-out.Fmmus (now (a .0)) (a .1 .0) r)
     pub «fmmu_mappings» : Says of-lists.fmmu_mappings.ended (of-lists.fmmu_mappings.clauses 𝓤 H A mem run) (λ κs a r e. read-out.FmmuMappings (now (a .0)) (a .1 .0) r)
     pub «maindevice_read_pdos» : Says of-lists.maindevice_read_pdos.ended (of-lists.maindevice_read_pdos.clauses 𝓤 H A mem run) (λ κs a r e. read-out.MaindeviceReadPdos (now (a .0)) (a .1 .0) r)
     pub «maindevice_write_pdos» : Says of-lists.maindevice_write_pdos.ended (of-lists.maindevice_write_pdos.clauses 𝓤 H A mem run) (λ κs a r e. read-out.MaindeviceWritePdos (now (a .0)) (a .1 .0) r)
+
+  pub record ClockContracts : Type 1 where
+    pub «distributed_clocks» : Says of-clock.distributed_clocks.ended (of-clock.distributed_clocks.clauses 𝓤 H A mem run) (λ κs a r e. read-out.DistributedClocks (now (a .0)) (a .1 .0) r)
 
   pub record StringsContracts : Type 1 where
     pub «find_string» : Says of-strings.find_string.ended (of-strings.find_string.clauses 𝓤 H A mem run) (λ κs a r e. read-out.FindString (now (a .0)) (a .1 .0) (a .1 .1 .0) (now (a .1 .1 .1 .0)) (record { answer = r; lent = now (e .1 .1 .1 .0) }))
@@ -160,7 +171,9 @@ module _ {M : Type 1} (𝓤 : URA M) (H : Heap 𝓤) (A : Atoms 𝓤) (mem : Mem
     pub eeprom : EepromContracts
     pub category : CategoryContracts
     pub sii : SiiContracts
+    pub setup : SetupContracts
     pub lists : ListsContracts
+    pub clock : ClockContracts
     pub strings : StringsContracts
     pub ports : PortsContracts
     pub pdu : PduContracts

@@ -1,4 +1,4 @@
--- What the calls of `category`, `sii`, `lists` and `strings` promise: their `ensures`, of the arguments at entry and the result. Definitions only.
+-- What the calls of `category`, `sii`, `setup`, `lists`, `clock` and `strings` promise: their `ensures`, of the arguments at entry and the result. Definitions only.
 use Prim.Native.Nat.{ℕ}
 use mathlib.Core.Path.{_≡_}
 use mathlib.Core.List.{List}
@@ -18,6 +18,12 @@ use Rattle.sii.specs.declared.GeneralFound.{GeneralFound}
 use Rattle.sii.specs.Fixed.{aliasSaid, setSaid, setImage, identitySaid, mailboxSaid, sizeSaid}
 use Rattle.sii.specs.General.{generalSaid, generalFound}
 use Rattle.sii.specs.Answers.{saidAlias, saidSet, saidIdentity, saidMailbox, saidSize, saidGeneral, saidFound}
+use Rattle.setup.specs.declared.PdiAnswer.{PdiAnswer}
+use Rattle.setup.specs.declared.BootstrapAnswer.{BootstrapAnswer}
+use Rattle.setup.specs.declared.VersionAnswer.{VersionAnswer}
+use Rattle.setup.specs.declared.ChecksumAnswer.{ChecksumAnswer}
+use Rattle.setup.specs.Setup.{pdiSaid, bootstrapSaid, versionSaid, checksumSaid}
+use Rattle.setup.specs.Answers.{saidPdi, saidBootstrap, saidVersion, saidChecksum}
 use Rattle.lists.specs.declared.SyncManagers.{SyncManagers as SyncManagerList}
 use Rattle.lists.specs.declared.FmmuList.{FmmuList}
 use Rattle.lists.specs.declared.PdoList.{PdoList}
@@ -26,6 +32,9 @@ use Rattle.lists.specs.SyncManagers.{smZero, smMost, smsOf}
 use Rattle.lists.specs.Fmmus.{fmmuMost, usagesOf, exOf}
 use Rattle.lists.specs.Pdos.{pdoZero, pdoMost, pdosOf}
 use Rattle.lists.specs.Answers.{backSms, backFmmus, backPdos}
+use Rattle.clock.specs.declared.DistributedClocks.{DistributedClocks as ClockList}
+use Rattle.clock.specs.Clocks.{clockZero, clockMost, clocksOf}
+use Rattle.clock.specs.Answers.{backClocks}
 use Rattle.strings.specs.declared.StringAnswer.{StringAnswer}
 use Rattle.strings.specs.Strings.{stringSaid, lengthSaid, roomAfter}
 use Rattle.strings.specs.Names.{nameSaid, descriptionSaid}
@@ -61,6 +70,20 @@ General image chunk r = saidGeneral r ≡ generalSaid image
 abbrev pub FindGeneral : List ℕ → Chunk → GeneralFound → Type 0
 FindGeneral image chunk r = saidFound r ≡ generalFound image
 
+-- ---- setup
+
+abbrev pub PdiControl : List ℕ → Chunk → PdiAnswer → Type 0
+PdiControl image chunk r = saidPdi r ≡ pdiSaid image
+
+abbrev pub BootstrapMailbox : List ℕ → Chunk → BootstrapAnswer → Type 0
+BootstrapMailbox image chunk r = saidBootstrap r ≡ bootstrapSaid image
+
+abbrev pub Version : List ℕ → Chunk → VersionAnswer → Type 0
+Version image chunk r = saidVersion r ≡ versionSaid image
+
+abbrev pub Checksum : List ℕ → Chunk → ChecksumAnswer → Type 0
+Checksum image chunk r = saidChecksum r ≡ checksumSaid image
+
 -- ---- lists: what is said, the count and every place
 
 abbrev pub SyncManagers : List ℕ → Chunk → SyncManagerList → Type 0
@@ -77,6 +100,11 @@ MaindeviceReadPdos image chunk r = backPdos r ≡ back pdoZero pdoMost (pdosOf i
 
 abbrev pub MaindeviceWritePdos : List ℕ → Chunk → PdoList → Type 0
 MaindeviceWritePdos image chunk r = backPdos r ≡ back pdoZero pdoMost (pdosOf image rxPdo)
+
+-- ---- clock
+
+abbrev pub DistributedClocks : List ℕ → Chunk → ClockList → Type 0
+DistributedClocks image chunk r = backClocks r ≡ back clockZero clockMost (clocksOf image)
 
 -- ---- strings: the answer, and the room
 

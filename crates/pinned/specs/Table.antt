@@ -60,12 +60,21 @@ pub record SiiPinned : Type 0 where
   pub «general» : (image : List ℕ) (chunk : Chunk) → Pinned (read-out.General image chunk)
   pub «find_general» : (image : List ℕ) (chunk : Chunk) → Pinned (read-out.FindGeneral image chunk)
 
+pub record SetupPinned : Type 0 where
+  pub «pdi_control» : (image : List ℕ) (chunk : Chunk) → Pinned (read-out.PdiControl image chunk)
+  pub «bootstrap_mailbox» : (image : List ℕ) (chunk : Chunk) → Pinned (read-out.BootstrapMailbox image chunk)
+  pub «version» : (image : List ℕ) (chunk : Chunk) → Pinned (read-out.Version image chunk)
+  pub «checksum» : (image : List ℕ) (chunk : Chunk) → Pinned (read-out.Checksum image chunk)
+
 pub record ListsPinned : Type 0 where
   pub «sync_managers» : (image : List ℕ) (chunk : Chunk) → Pinned (read-out.SyncManagers image chunk)
   pub «fmmus» : (image : List ℕ) (chunk : Chunk) → Pinned (read-out.Fmmus image chunk)
   pub «fmmu_mappings» : (image : List ℕ) (chunk : Chunk) → Pinned (read-out.FmmuMappings image chunk)
   pub «maindevice_read_pdos» : (image : List ℕ) (chunk : Chunk) → Pinned (read-out.MaindeviceReadPdos image chunk)
   pub «maindevice_write_pdos» : (image : List ℕ) (chunk : Chunk) → Pinned (read-out.MaindeviceWritePdos image chunk)
+
+pub record ClockPinned : Type 0 where
+  pub «distributed_clocks» : (image : List ℕ) (chunk : Chunk) → Pinned (read-out.DistributedClocks image chunk)
 
 pub record StringsPinned : Type 0 where
   pub «find_string» : (image : List ℕ) (chunk : Chunk) (index : ℕ) (room : List ℕ) → Pinned (read-out.FindString image chunk index room)
@@ -135,7 +144,9 @@ pub record EveryCall : Type 0 where
   pub eeprom : EepromPinned
   pub category : CategoryPinned
   pub sii : SiiPinned
+  pub setup : SetupPinned
   pub lists : ListsPinned
+  pub clock : ClockPinned
   pub strings : StringsPinned
   pub ports : PortsPinned
   pub pdu : PduPinned

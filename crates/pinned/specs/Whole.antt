@@ -20,7 +20,9 @@ use Rattle.crc.proofs as of-crc
 use Rattle.eeprom.proofs as of-eeprom
 use Rattle.category.proofs as of-category
 use Rattle.sii.proofs as of-sii
+use Rattle.setup.proofs as of-setup
 use Rattle.lists.proofs as of-lists
+use Rattle.clock.proofs as of-clock
 use Rattle.strings.proofs as of-strings
 use Rattle.ports.proofs as of-ports
 use Rattle.pdu.proofs as of-pdu
@@ -82,12 +84,21 @@ module _ {M : Type 1} (𝓤 : URA M) (H : Heap 𝓤) (A : Atoms 𝓤) (mem : Mem
     pub «general» : Whole of-sii.general.ended (of-sii.general.clauses 𝓤 H A mem run)
     pub «find_general» : Whole of-sii.find_general.ended (of-sii.find_general.clauses 𝓤 H A mem run)
 
+  pub record SetupWhole : Type 1 where
+    pub «pdi_control» : Whole of-setup.pdi_control.ended (of-setup.pdi_control.clauses 𝓤 H A mem run)
+    pub «bootstrap_mailbox» : Whole of-setup.bootstrap_mailbox.ended (of-setup.bootstrap_mailbox.clauses 𝓤 H A mem run)
+    pub «version» : Whole of-setup.version.ended (of-setup.version.clauses 𝓤 H A mem run)
+    pub «checksum» : Whole of-setup.checksum.ended (of-setup.checksum.clauses 𝓤 H A mem run)
+
   pub record ListsWhole : Type 1 where
     pub «sync_managers» : Whole of-lists.sync_managers.ended (of-lists.sync_managers.clauses 𝓤 H A mem run)
     pub «fmmus» : Whole of-lists.fmmus.ended (of-lists.fmmus.clauses 𝓤 H A mem run)
     pub «fmmu_mappings» : Whole of-lists.fmmu_mappings.ended (of-lists.fmmu_mappings.clauses 𝓤 H A mem run)
     pub «maindevice_read_pdos» : Whole of-lists.maindevice_read_pdos.ended (of-lists.maindevice_read_pdos.clauses 𝓤 H A mem run)
     pub «maindevice_write_pdos» : Whole of-lists.maindevice_write_pdos.ended (of-lists.maindevice_write_pdos.clauses 𝓤 H A mem run)
+
+  pub record ClockWhole : Type 1 where
+    pub «distributed_clocks» : Whole of-clock.distributed_clocks.ended (of-clock.distributed_clocks.clauses 𝓤 H A mem run)
 
   pub record StringsWhole : Type 1 where
     pub «find_string» : Whole of-strings.find_string.ended (of-strings.find_string.clauses 𝓤 H A mem run)
@@ -157,7 +168,9 @@ module _ {M : Type 1} (𝓤 : URA M) (H : Heap 𝓤) (A : Atoms 𝓤) (mem : Mem
     pub eeprom : EepromWhole
     pub category : CategoryWhole
     pub sii : SiiWhole
+    pub setup : SetupWhole
     pub lists : ListsWhole
+    pub clock : ClockWhole
     pub strings : StringsWhole
     pub ports : PortsWhole
     pub pdu : PduWhole

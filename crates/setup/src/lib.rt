@@ -1,5 +1,5 @@
 // The words of the SII's fixed area that ethercrab does not read: PDI control, bootstrap mailbox, version, and the checksum beside what it should be.
-// Follows ETG2010 Table 2 and ETG1000.6 Table 16; specs/Layout.antt says where each field lies.
+// Follows `SiiCoding` of eeprom/types.rs (ETG2010 Table 2, ETG1000.6 Table 16); specs/Layout.antt says where each field lies.
 use crc::crc;
 use eeprom::Chunk;
 use eeprom::byte_of;
