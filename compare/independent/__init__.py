@@ -34,4 +34,5 @@ Where things are:
     lines.py     reading words and printing answers
     requests.py  the table of requests
     desk.py      the loop over the lines
+    morel.py     what the program `morel` prints
 """

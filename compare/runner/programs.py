@@ -119,10 +119,10 @@ def _desk():
     program = os.path.join(ROOT, "target", "bin", "desk")
     if not os.path.exists(program):
         raise Missing("there is no target/bin/desk; `rt check desk` makes it")
-    return _kit_words() + [program]
+    return kit_words() + [program]
 
 
-def _kit_words():
+def kit_words():
     """As `rt` runs a program: the kit's loader and C library, and on another
     processor than x86-64 the kit's emulator."""
     tools = os.path.join(_kit(), "on", platform.machine(), "toolchain")
