@@ -13,7 +13,7 @@ use Rattle.created_frame.specs.declared.CanPush.{CanPush}
 use Rattle.created_frame.specs.declared.CanPush.the-variants as asking
 
 -- the PDU's place, its whole size, its index, its command
-abbrev handleValues : PduResponseHandle → List ℕ
+abbrev pub handleValues : PduResponseHandle → List ℕ
 handleValues h = h .start ∷ h .size ∷ h .index ∷ h .command ∷ []
 
 -- used, count, last

@@ -2,7 +2,6 @@
 use Prim.Native.Nat.{ℕ}
 use mathlib.Core.Path.{_≡_, refl, sym, ap, _∙_}
 use lib.ListN.{length}
-use lib.Seq.{take-nil}
 use mathlib.Core.Bool.{Bool, true, false}
 use mathlib.Core.List.{List, [], _∷_}
 use types.Run.{OneOf, miss}
@@ -28,8 +27,7 @@ use Rattle.refusal.specs.declared.Refusal.the-variants.{
 }
 use Rattle.sii.specs.General.{bit}
 use Rattle.created_frame.specs.declared.Builder.{Builder}
-use Rattle.wire.specs.Bytes.{laid}
-use Rattle.wire.proofs.Laws.{overlay-none}
+use Rattle.wire.proofs.Laws.{laid-none}
 use Rattle.export.specs.Told.{codeOf, rowOver, stateOver, bytesOver}
 
 -- what says the same is told the same
@@ -52,15 +50,10 @@ pub told-bytes : (s t : Said) (r : ℕ) (xs ys before after : List ℕ) → s �
     → (r ≡ codeOf t) × (after ≡ bytesOver before t ys)
 told-bytes s t r xs ys before after e f h = (h .0 ∙ ap codeOf e, rw (← e, ← f) (h .1))
 
--- no values leave the row as it was
-pub laid-none : (row : List ℕ) (at : ℕ) → row ≡ laid row at []
-unfolding laid
-laid-none row at = rw take-nil (sym (overlay-none row at))
-
 -- absent: the row stays
 pub told-absent : (t : Said) (row : List ℕ) → absent ≡ t → (255 ≡ codeOf t) × (row ≡ rowOver row t)
 unfolding rowOver
-told-absent t row e = told absent t 255 row row e (refl, laid-none row 0)
+told-absent t row e = told absent t 255 row row e (refl, sym (laid-none row 0))
 
 -- a test as a number, in either crate's words
 pub bit-pick : (t : Bool) → bit t ≡ pick t 1 0
@@ -93,4 +86,4 @@ no-values BadArgument k = refl
 -- .. so the row stays
 pub row-stays : (x : Refusal) → OneOf others (tagOf the-type x) → (row : List ℕ) → row ≡ rowOver row (saidOf x)
 unfolding rowOver
-row-stays x k row = rw (no-values x k) (laid-none row 0)
+row-stays x k row = rw (no-values x k) (sym (laid-none row 0))

@@ -15,7 +15,7 @@ use Rattle.pdu.specs.Read.{Places, bad, good, headed, placesAt, frameOf, seenAt
 use Rattle.pdu.proofs.Laws.{Few, few-places}
 use Rattle.frame_reader.specs.Answers.{unused, padded}
 use Rattle.export.specs.Told.{pduValues, pdusOver}
-use Rattle.export.proofs.Flat.{laid-behind}
+use Rattle.export.proofs.Flat.{laid-on}
 
 few-seen : (s : List ℕ) (R : Places) → Few R 2047 → length (pdusOf (seenAll s R)) ≤ pdusMost
 unfolding Few
@@ -51,4 +51,4 @@ module _ (vs pdus : List PduFields) (n : ℕ) (counted : n ≡ length vs) (liste
   unfolding padded pdusOver
   read-row row after whole m e a w =
       let t : take n pdus ≡ vs = rw listed (take-at vs (unused (pdusMost - length vs)) n (sym counted)) in
-      w ∙ rw (t, a, laid-behind row 0 (m ∷ []) (flatMap pduValues vs), e, counted)
+      w ∙ rw (t, a, laid-on row 0 (m ∷ []) (flatMap pduValues vs), e, counted)

@@ -14,7 +14,7 @@ use Rattle.created_frame.specs.Frame.{fresh, taken, restBuilder, restNext, afte
 use Rattle.spread.specs.Answers.{firstOf}
 use Rattle.spread.specs.Row.{areasMost, addressEnd, zeroed, Run, stopped, rowFrom, lawful, roomIn, padded, Outcome, done, no, spreadOf}
 use Rattle.spread.proofs.Laws.{law}
-use Rattle.export.proofs.Flat.{laid-behind}
+use Rattle.export.proofs.Flat.{laid-on}
 use Rattle.export.specs.Told.{stateValues, runOver}
 
 -- each area that is taken has one state
@@ -63,7 +63,7 @@ module _ (row : List ℕ) (size : ℕ) (first : Builder) (index command address 
 -- two numbers, and what is laid behind them
 pub pair-behind : (row after whole zs : List ℕ) (x y n m : ℕ) → x ≡ n → y ≡ m → after ≡ laid row 0 (x ∷ y ∷ []) → whole ≡ laid after 2 zs
     → whole ≡ laid row 0 (n ∷ m ∷ zs)
-pair-behind row after whole zs x y n m e f a w = w ∙ rw (a, laid-behind row 0 (x ∷ y ∷ []) zs, e, f)
+pair-behind row after whole zs x y n m e f a w = w ∙ rw (a, laid-on row 0 (x ∷ y ∷ []) zs, e, f)
 
 -- the list has so many places
 pub listed-most : (l states : List Builder) (n : ℕ) → n ≡ length l → states ≡ padded l → n ≤ length states

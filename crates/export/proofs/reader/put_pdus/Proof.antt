@@ -9,7 +9,7 @@ use Rattle.wire.specs.Bytes.{laid}
 use Rattle.frame_reader.specs.Answers.{noPdu}
 use Rattle.export.specs.Told.{pduValues}
 use Rattle.export.proofs.Flat.{flat-next}
-use Rattle.export.proofs.Laws.{laid-none}
+use Rattle.wire.proofs.Laws.{laid-none}
 use Rattle.export.proofs.reader.put_pdus.Statement.{statement}
 use Rattle.export.proofs.reader.put_pdus.Tie as tie
 use Rattle.export.proofs.reader.put_pdus.Reads as reads
@@ -26,7 +26,7 @@ abbrev μ-loop : tie.MeasureT-loop
 
 loop-holds : tie.Need-loop-holds Inv-loop μ-loop
 unfolding flatMap
-loop-holds c = (laid-none (c .before .args .out .now) (c .before .args .at), search needs, search needs, refl)
+loop-holds c = (sym (laid-none (c .before .args .out .now) (c .before .args .at)), search needs, search needs, refl)
 
 mul-pdu-row : tie.Need-mul-pdu-row Inv-loop μ-loop
 mul-pdu-row c = search needs
