@@ -107,8 +107,13 @@ def fields(label, kinds, call, *arguments):
         record = call(*arguments)
     except Refusal as refusal:
         return [line(label, refused(refusal))]
-    return [line(name, say(value)) for (name, say), value
-            in zip(kinds, record, strict=True)]
+    return rows("", kinds, record)
+
+
+def rows(head, kinds, record):
+    assert len(kinds) == len(record)
+    return [line(head + name, say(value))
+            for (name, say), value in zip(kinds, record)]
 
 
 def listed(label, item, kinds, call, *arguments):
@@ -119,8 +124,7 @@ def listed(label, item, kinds, call, *arguments):
         return [line(label, refused(refusal))]
     lines = [line(label, str(len(records)))]
     for place, record in enumerate(records):
-        for (name, say), value in zip(kinds, record, strict=True):
-            lines.append(line(f"{item} {place} {name}", say(value)))
+        lines += rows(f"{item} {place} ", kinds, record)
     return lines
 
 

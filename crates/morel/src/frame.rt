@@ -43,7 +43,15 @@ fn pdus(frame: &[u8], r: FrameRead) {
     while i < n {
         record(
             i,
-            b",vpdu # command=NOP APRD APWR APRW FPRD FPWR FPRW BRD BWR BRW LRD LWR LRW ARMW FRMW,dpdu # index,8pdu # address,dpdu # bytes,npdu # circulating=no yes,npdu # more follows=no yes,4pdu # irq,dpdu # working counter",
+            b",\
+              vpdu # command=NOP APRD APWR APRW FPRD FPWR FPRW BRD BWR BRW LRD LWR LRW ARMW FRMW,\
+              dpdu # index,\
+              8pdu # address,\
+              dpdu # bytes,\
+              npdu # circulating=no yes,\
+              npdu # more follows=no yes,\
+              4pdu # irq,\
+              dpdu # working counter",
             &pdu(items[i]),
         );
         payload(frame, i, items[i]);

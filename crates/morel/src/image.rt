@@ -21,7 +21,21 @@ pub(crate) fn print(image: &[u8]) {
     identity_and_mailboxes(image);
     record(
         0,
-        b"general,dgeneral group string,dgeneral image string,dgeneral order string,dgeneral name string,fgeneral coe details=sdo sdo-info pdo-assign pdo-config startup-upload complete-access,ngeneral foe=no yes,ngeneral eoe=no yes,fgeneral flags=enable-safe-op enable-not-lrw mailbox-dll ident-al-status ident-phy-m,sgeneral ebus current,vgeneral port 0=Unused Mii Reserved Ebus FastHotConnect,vgeneral port 1=Unused Mii Reserved Ebus FastHotConnect,vgeneral port 2=Unused Mii Reserved Ebus FastHotConnect,vgeneral port 3=Unused Mii Reserved Ebus FastHotConnect,4general physical address",
+        b"general,\
+          dgeneral group string,\
+          dgeneral image string,\
+          dgeneral order string,\
+          dgeneral name string,\
+          fgeneral coe details=sdo sdo-info pdo-assign pdo-config startup-upload complete-access,\
+          ngeneral foe=no yes,\
+          ngeneral eoe=no yes,\
+          fgeneral flags=enable-safe-op enable-not-lrw mailbox-dll ident-al-status ident-phy-m,\
+          sgeneral ebus current,\
+          vgeneral port 0=Unused Mii Reserved Ebus FastHotConnect,\
+          vgeneral port 1=Unused Mii Reserved Ebus FastHotConnect,\
+          vgeneral port 2=Unused Mii Reserved Ebus FastHotConnect,\
+          vgeneral port 3=Unused Mii Reserved Ebus FastHotConnect,\
+          4general physical address",
         &general(image),
     );
     texts::print(image);
@@ -52,12 +66,21 @@ fn identity_and_mailboxes(image: &[u8]) {
     );
     record(
         0,
-        b"bootstrap,4bootstrap receive offset,dbootstrap receive size,4bootstrap send offset,dbootstrap send size",
+        b"bootstrap,\
+          4bootstrap receive offset,\
+          dbootstrap receive size,\
+          4bootstrap send offset,\
+          dbootstrap send size",
         &bootstrap(image),
     );
     record(
         0,
-        b"mailbox,4mailbox receive offset,dmailbox receive size,4mailbox send offset,dmailbox send size,fmailbox protocols=AoE EoE CoE FoE SoE VoE",
+        b"mailbox,\
+          4mailbox receive offset,\
+          dmailbox receive size,\
+          4mailbox send offset,\
+          dmailbox send size,\
+          fmailbox protocols=AoE EoE CoE FoE SoE VoE",
         &mailbox(image),
     );
 }

@@ -78,7 +78,16 @@ fn sync_managers(l: SyncManagers) {
     while i < n {
         record(
             i,
-            b",4sync manager # start,dsync manager # bytes,vsync manager # mode=Normal - Mailbox,vsync manager # direction=MasterRead MasterWrite,nsync manager # ecat event=no yes,nsync manager # dls event=no yes,nsync manager # watchdog=no yes,fsync manager # enable=enable is-fixed is-virtual op-only,vsync manager # usage=Unknown MailboxWrite MailboxRead ProcessDataWrite ProcessDataRead",
+            b",\
+              4sync manager # start,\
+              dsync manager # bytes,\
+              vsync manager # mode=Normal - Mailbox,\
+              vsync manager # direction=MasterRead MasterWrite,\
+              nsync manager # ecat event=no yes,\
+              nsync manager # dls event=no yes,\
+              nsync manager # watchdog=no yes,\
+              fsync manager # enable=enable is-fixed is-virtual op-only,\
+              vsync manager # usage=Unknown MailboxWrite MailboxRead ProcessDataWrite ProcessDataRead",
             &sync_manager(items[i]),
         );
         i += 1;
@@ -143,7 +152,15 @@ fn clocks(l: DistributedClocks) {
     while i < n {
         record(
             i,
-            b",dclock mode # cycle time,dclock mode # shift time 0,dclock mode # shift time 1,sclock mode # sync1 factor,4clock mode # activate,sclock mode # sync0 factor,dclock mode # name,dclock mode # description",
+            b",\
+              dclock mode # cycle time,\
+              dclock mode # shift time 0,\
+              dclock mode # shift time 1,\
+              sclock mode # sync1 factor,\
+              4clock mode # activate,\
+              sclock mode # sync0 factor,\
+              dclock mode # name,\
+              dclock mode # description",
             &clock_mode(items[i]),
         );
         i += 1;

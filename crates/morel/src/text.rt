@@ -183,7 +183,8 @@ pub(crate) fn refusal(number: u64) {
     say(b"refused ");
     number_and_name(
         number,
-        b"- Address Overrun NoCategory StringTooLong Decode Capacity NotWritable TooLong NoPort BadPort Sum BadFrame NoRoom BadArgument",
+        b"- Address Overrun NoCategory StringTooLong Decode Capacity NotWritable TooLong NoPort \
+          BadPort Sum BadFrame NoRoom BadArgument",
     );
     say(b"\n");
 }
