@@ -85,8 +85,8 @@ def signed(value):
 
 
 def plain(text):
-    return "".join(chr(byte) if 0x20 <= byte <= 0x7E else f"\\x{byte:02x}"
-                   for byte in text)
+    return "".join(chr(byte) if 0x20 <= byte <= 0x7E and byte != 0x5C
+                   else f"\\x{byte:02x}" for byte in text)
 
 
 def refused(refusal):
@@ -201,8 +201,7 @@ def string_lines(image):
 def sii_lines(image):
     return (
         one("sii bytes", str, sii.size, image)
-        + fields("sii version", (("sii version", str),), setup.version,
-                 image)
+        + one("sii version", str, setup.version, image)
         + checksum_lines(image)
         + one("alias", str, sii.alias, image)
         + fields("pdi control", PDI, setup.pdi, image)

@@ -134,7 +134,7 @@ fn value(kind: u8, v: u64, names: &[u8]) {
     }
 }
 
-// A text of any bytes, those that can't be printed as \xNN, so that it stays on its line; and the line's end.
+// A text of any bytes, those that can't be printed and the backslash as \xNN, so that it stays on its line and says one text; and the line's end.
 pub(crate) fn plain(text: &[u8]) {
     let mut i = 0;
     while i < text.len() {
@@ -144,8 +144,16 @@ pub(crate) fn plain(text: &[u8]) {
     say(b"\n");
 }
 
+fn is_plain(b: u8) -> bool {
+    if b == b'\\' {
+        false
+    } else {
+        std::num::wrapping_sub_u8(b, 32) < 95
+    }
+}
+
 fn glyph(b: u8) {
-    if std::num::wrapping_sub_u8(b, 32) < 95 {
+    if is_plain(b) {
         say(&[b]);
     } else {
         say(b"\\x");
