@@ -2,6 +2,7 @@
 
 import argparse
 import os
+import shutil
 import sys
 import time
 from collections import Counter
@@ -9,6 +10,7 @@ from collections import Counter
 from . import bench, cases, differences, listed, programs, shrink
 from .request import answer_class, kind_of, parsed
 from .tally import Tally
+from .tried import Tried
 
 BATCH_LINES = 20_000
 BATCH_BYTES = 8_000_000
@@ -22,7 +24,10 @@ ENDINGS = (b"", b"\n", b"\n\n", b"crc -", b"crc -\n", b"crc -\n\n",
 
 def main(words=None):
     asked = arguments(words)
-    there, missing = programs.found(asked.programs)
+    # A desk that is tried is not asked: `rt try` only holds it to answers.
+    there, missing = programs.found(
+        [name for name in asked.programs
+         if not (asked.tries and name == "desk")])
     for sentence in missing:
         print(sentence)
     if not there:
@@ -32,11 +37,23 @@ def main(words=None):
     if len(there) == 1:
         print("only one program is there: nothing but the bench is compared")
     comparison = Comparison(there, asked.save)
+    if asked.tries:
+        comparison.tried = tried_desk(comparison.programs)
     comparison.bench()
     comparison.endings()
     comparison.examples()
     comparison.random(asked.count, asked.seed)
     return comparison.report()
+
+
+def tried_desk(there):
+    if not shutil.which("rt"):
+        print("desk is not tried: there is no `rt` on the PATH")
+    elif "independent" not in there:
+        print("desk is not tried: the independent program isn't asked")
+    else:
+        return Tried()
+    return None
 
 
 def arguments(words):
@@ -52,6 +69,9 @@ def arguments(words):
                         type=lambda text: text.split(","),
                         help="of desk,oracle,independent; those not there "
                         "are left out")
+    parser.add_argument("--try", dest="tries", action="store_true",
+                        help="hold the desk to the independent program's "
+                        "answers by `rt try`, which needs no proof")
     parser.add_argument("--save", metavar="DIR",
                         help="write requests, answers and differences there")
     asked = parser.parse_args(words)
@@ -73,6 +93,7 @@ class Comparison:
         self.groups = {}
         self.notes = []
         self.files = Files(save, self.programs)
+        self.tried = None
         self.began = time.monotonic()
 
     # --- What is asked ---
@@ -89,6 +110,7 @@ class Comparison:
                     self.faults.append(f"bench: {name} answers {said}\n"
                                        f"  not {right}\n  to {cut(request)}")
         self.notes.append(f"bench: {len(found)} cases")
+        self.try_desk(lines, [right for _, right in found])
 
     def excused(self, name, request, said, right):
         """The oracle may be silent, or differ where an entry says so."""
@@ -124,13 +146,26 @@ class Comparison:
                                + ", ".join(sorted(without)))
 
     def random(self, count, seed):
-        small = []
+        small, requests, ours = [], [], []
         for lines in batches(cases.requests(count, seed, small)):
             answers = self.ask(lines)
             self.compare(lines, answers)
             self.files.write(lines, answers)
+            if self.tried:
+                requests += lines
+                ours += answers["independent"]
+        self.try_desk(requests, ours)
         if count:
             self.notes.append(f"seed {seed}; small cases: " + ", ".join(small))
+
+    def try_desk(self, lines, answers):
+        """Where it is asked for: the desk gives these answers."""
+        if not self.tried or not lines:
+            return
+        for request, said in self.tried.faults(lines, answers):
+            self.faults.append("desk, tried: "
+                               + (cut(request) if request else "no request")
+                               + "\n" + cut(said))
 
     def ask(self, lines):
         return {name: program.ask(lines)
@@ -178,6 +213,9 @@ class Comparison:
         self.say_filed()
         for note in self.notes:
             print(note)
+        if self.tried:
+            print(f"desk: {self.tried.asked} requests, held to the independent "
+                  f"program's answers in {self.tried.runs} runs of three builds")
         for fault in self.faults:
             print("FAULT", fault)
         self.say_groups()
