@@ -10,7 +10,7 @@ import tempfile
 from .programs import ROOT, environment
 
 # How `rt try` says of each way that the answers are the expected ones. Its
-# interpreter, the fourth way, takes no more steps than some lines need.
+# interpreter, the fourth way, has too few steps for as many lines as this.
 RIGHT = "ok: the native program "
 WAYS = 3
 WRONG = re.compile("the native program .*\n.* at byte ([0-9]+)")
