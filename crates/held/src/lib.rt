@@ -14,7 +14,8 @@ use step::skip_step;
 use step::write_step;
 ghost use mathlib.Core.Path.{_≡_};
 ghost use Rattle.ports.specs.Ports.{timesSet};
-ghost use Rattle.ports.specs.Assigning.{assignedOf};
+ghost use Rattle.ports.specs.Answers.{saidPort};
+ghost use Rattle.ports.specs.Assigning.{assignedSaid, assignedPorts};
 ghost use Rattle.eeprom.specs.Range.{newSaid, byteSaid, writeSaid, writeImage};
 ghost use Rattle.held.specs.Range.{alone, stands, rangeOn, rangeMutOn, after, skipOf, byteOf, readOf, readInto, exactOf, exactInto, writeOf, written};
 ghost use Rattle.held.specs.Answers.{saidOutcome, saidByteRead, saidCounted};
@@ -201,7 +202,7 @@ pub fn set_receive_times(ports: &mut Ports, time_p0: u32, time_p3: u32, time_p1:
 
 // Links a downstream device in the caller's record, to the next port that has none. Refuses 14 for device 0, then 9.
 pub fn assign_next_downstream_port(ports: &mut Ports, downstream_subdevice_index: u16) -> PortAnswer
-    ensures { λ r. ⌜ (r ≡ assignedOf (now (ports .entry)) «downstream_subdevice_index» .answer) × (now (ports .exit) ≡ assignedOf (now (ports .entry)) «downstream_subdevice_index» .ports) ⌝ }
+    ensures { λ r. ⌜ (saidPort r ≡ assignedSaid (now (ports .entry)) «downstream_subdevice_index») × (now (ports .exit) ≡ assignedPorts (now (ports .entry)) «downstream_subdevice_index») ⌝ }
 {
     let a = ports.assign_next_downstream_port(downstream_subdevice_index);
     *ports = a.ports;
@@ -210,7 +211,7 @@ pub fn assign_next_downstream_port(ports: &mut Ports, downstream_subdevice_index
 
 // The same for a record by value: it is copied, lent and handed back.
 pub fn after_assign(ports: Ports, downstream_subdevice_index: u16) -> Assigned
-    ensures { λ r. ⌜ r ≡ assignedOf ports «downstream_subdevice_index» ⌝ }
+    ensures { λ r. ⌜ (saidPort (r .answer) ≡ assignedSaid ports «downstream_subdevice_index») × (r .ports ≡ assignedPorts ports «downstream_subdevice_index») ⌝ }
 {
     let mut record = ports;
     let answer = assign_next_downstream_port(&mut record, downstream_subdevice_index);
