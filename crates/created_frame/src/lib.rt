@@ -7,7 +7,7 @@ ghost use Prim.Native.Nat.{_+_, _≤_, _<_, max};
 ghost use lib.ListN.{length};
 ghost use Rattle.pdu.specs.Pdu.{areaMost, pduOverhead};
 ghost use Rattle.created_frame.specs.Frame.{marked, sound, acceptable, withPdu, Roomy, grown, pushed, pushedBuilder, pushedNext, afterPush, opened, afterOpen, taken, restPushed, restBuilder, restNext, afterRest, canPush};
-ghost use Rattle.created_frame.specs.Answers.{saidOpened, saidPushed, saidRest, saidCan};
+ghost use Rattle.created_frame.specs.Answers.{handleValues, stateValues, saidOpened, saidPushed, saidRest, saidCan};
 
 // A PDU's bytes over its payload: its header, and the working counter behind the payload.
 pub const PDU_OVERHEAD_BYTES: usize = 12;
@@ -201,6 +201,25 @@ pub fn is_sound(size: usize, b: Builder) -> bool
         return false;
     }
     true
+}
+
+// A state as a row of numbers: used, count, last.
+pub fn state_row(b: Builder) -> [u64; 3]
+    ensures { λ r. ⌜ r ≡ stateValues b ⌝ }
+{
+    [b.used as u64, b.count as u64, b.last as u64]
+}
+
+// A handle as a row of numbers: the PDU's place, its whole size, its index, its command.
+pub fn handle_row(h: PduResponseHandle) -> [u64; 4]
+    ensures { λ r. ⌜ r ≡ handleValues h ⌝ }
+{
+    [
+        h.start as u64,
+        h.size as u64,
+        h.index as u64,
+        h.command as u64,
+    ]
 }
 
 // State, command and lengths are within the bounds.

@@ -1,11 +1,12 @@
 // What a PDU and a frame are on the wire, and the packing of their headers: pdu_header.rs, pdu_flags.rs and frame_header.rs of the Rust.
 // Document 01, 'Frames'. The builder and the reader share the definitions in specs/ and the record of a PDU's fields.
 use refusal::Refusal;
+use wire::flag;
 ghost use mathlib.Core.Path.{_≡_};
 ghost use Prim.Native.Nat.{_%_, _≤_};
 ghost use Rattle.pdu.specs.Pdu.{areaMost, headerOf, frameHeader};
 ghost use Rattle.pdu.specs.Read.{rightly};
-ghost use Rattle.pdu.specs.Answers.{saidHeader, headerSaid, headerLeft};
+ghost use Rattle.pdu.specs.Answers.{saidHeader, headerSaid, headerLeft, pduValues};
 
 // The largest area, and so the most bytes that a frame's PDUs take: what the 11 bits of a length hold.
 pub const AREA_MOST: usize = 2047;
@@ -80,6 +81,23 @@ pub fn frame_header(used: usize) -> FrameHead
             bytes: [0, 0],
         }
     }
+}
+
+// A PDU's fields as a row of numbers, in the order of the record; a flag is 1 or 0.
+pub fn pdu_row(p: PduFields) -> [u64; 9]
+    ensures { λ r. ⌜ r ≡ pduValues p ⌝ }
+{
+    [
+        p.command as u64,
+        p.index as u64,
+        p.address as u64,
+        p.len as u64,
+        flag(p.circulated),
+        flag(p.more_follows),
+        p.irq as u64,
+        p.place as u64,
+        p.counter as u64,
+    ]
 }
 
 // The PDU at `at` with these flags ends rightly: at `end` if it is the last, before it if more follow.

@@ -1,5 +1,6 @@
 -- Bytes in a list: one, a number of several, a stretch of them, and one list laid over another. Definitions only.
 use Prim.Native.Nat.{ℕ, zero, suc, _+_, _-_, _*_, _/_, _%_, _<_}
+use mathlib.Core.Bool.{Bool, true, false}
 use mathlib.Core.List.{List, [], _∷_, _++_}
 use lib.ListN.{length, getD, take, drop}
 
@@ -41,3 +42,8 @@ overlay xs at ys = take at xs ++ ys ++ drop (at + length ys) xs
 -- .. as much of ys as lies within
 unfoldable pub laid : List ℕ → ℕ → List ℕ → List ℕ
 laid xs at ys = overlay xs at (take (length xs - at) ys)
+
+-- a test as a number: 1 where it holds, else 0
+abbrev pub bit : Bool → ℕ
+bit true = 1
+bit false = 0

@@ -3,7 +3,7 @@
 ghost use mathlib.Core.Path.{_≡_};
 ghost use Prim.Native.Nat.{ℕ, _+_, _*_, _≤_, _<_, min};
 ghost use lib.ListN.{length, take, replicate};
-ghost use Rattle.wire.specs.Bytes.{byteAt, le16, le32, overlay, laid};
+ghost use Rattle.wire.specs.Bytes.{byteAt, le16, le32, overlay, laid, bit};
 
 // The byte at i.
 pub fn byte_at(s: &[u8], i: usize) -> u8
@@ -44,6 +44,13 @@ pub fn long_at(s: &[u8], i: usize) -> u32
 {
     let second = next(s, next(s, i));
     join32(word_at(s, i), word_at(s, second))
+}
+
+// A test as a number: 1 where it holds, else 0.
+pub fn flag(b: bool) -> u64
+    ensures { λ r. ⌜ r ≡ bit b ⌝ }
+{
+    if b { 1 } else { 0 }
 }
 
 // The smaller of two.
