@@ -36,6 +36,9 @@ SYNC_MANAGER_TYPES = frozenset((0, 1, 2, 3, 4))
 FMMU_USAGES = {0: 0, 1: 1, 2: 2, 3: 3, 0xFF: 0}
 
 GENERAL_BYTES = 18
+# Where ETG2010 has them; the record above has them two bytes earlier.
+PHYSICAL_PORTS_BYTE = 16
+PHYSICAL_ADDRESS_BYTE = 18
 SYNC_MANAGER_BYTES = 8
 EXTENDED_FMMU_BYTES = 3
 PDO_BYTES = 8
@@ -119,11 +122,32 @@ def _decode_general(record):
     eoe = int(record[7] != 0)
     flags = _flags(record[11], FLAGS_UNDEFINED)
     current, ports, physical = struct.unpack("<3H", record[12:18])
-    # Four bits a port, port 0 lowest.
-    statuses = tuple(_listed(ports >> shift & 0xF, PORT_STATUSES)
-                     for shift in (0, 4, 8, 12))
     return ((group, picture, order, name, coe, foe, eoe, flags, current)
-            + statuses + (physical,))
+            + _statuses(ports) + (physical,))
+
+
+def _statuses(ports):
+    """Four bits a port, port 0 lowest."""
+    return tuple(_listed(ports >> shift & 0xF, PORT_STATUSES)
+                 for shift in (0, 4, 8, 12))
+
+
+def _word_of_general(image, byte):
+    """The 16 bits at a byte of General. Nothing else of it is decoded."""
+    at = category.category(image, category.GENERAL)
+    refuse_unless(at is not ABSENT, NO_CATEGORY)
+    record = bytearray(byte + 2)
+    eeprom.read_exact(image, at, record)
+    return int.from_bytes(record[byte:], "little")
+
+
+def physical_ports(image):
+    """The kinds of ports 0 to 3, by ETG2010's places."""
+    return _statuses(_word_of_general(image, PHYSICAL_PORTS_BYTE))
+
+
+def physical_memory_address(image):
+    return _word_of_general(image, PHYSICAL_ADDRESS_BYTE)
 
 
 # --- Lists ---

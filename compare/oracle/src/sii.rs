@@ -166,3 +166,10 @@ pub fn unread(words: Words) -> Reply {
     only_image(words)?;
     Err(Off::None)
 }
+
+/// Whether a search stays in the image: the Rust does not ask.
+pub fn not_asked(mut words: Words) -> Reply {
+    let (_, _) = (image(&mut words)?, words.u16()?);
+    words.end()?;
+    Err(Off::None)
+}
