@@ -44,7 +44,7 @@ module _ (xs : List ℕ) (b : Builder) (index command address len : ℕ) (bytes 
       omega (arith, length-marked xs (b .count) (b .last), r .fits, r .given-fits)
 
   -- it is as long as it was
-  length-with : length (withPdu xs b index command address len bytes) ≡ length xs
+  pub length-with : length (withPdu xs b index command address len bytes) ≡ length xs
   length-with = length-overlay (marked xs (b .count) (b .last)) (b .used) ys inside ∙ length-marked xs (b .count) (b .last)
 
   -- its header and the given bytes are written
