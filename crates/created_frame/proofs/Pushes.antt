@@ -15,7 +15,7 @@ use Rattle.created_frame.specs.declared.Builder.{Builder}
 use Rattle.created_frame.specs.declared.PduResponseHandle.{PduResponseHandle}
 use Rattle.created_frame.specs.declared.Push.{Push}
 use Rattle.created_frame.specs.declared.Pushed.the-variants.{Done, No}
-use Rattle.created_frame.specs.Frame.{acceptable, room, withPdu, grown, after, Roomy, pushed, pushedBuilder, pushedNext, afterPush}
+use Rattle.created_frame.specs.Frame.{acceptable, room, moreOn, withPdu, grown, after, Roomy, pushed, pushedBuilder, pushedNext, afterPush}
 use Rattle.created_frame.specs.Bounds.{InBounds}
 use Rattle.created_frame.specs.Built.{made, pushAdds, Ours, then-pushed}
 use Rattle.created_frame.specs.Pushes.{handleOf, Written, Pushes}
@@ -27,7 +27,7 @@ use Rattle.created_frame.proofs.Whole.{length-with, new-bytes, flag-set
 -- ---- the area after a PDU more
 
 -- more-follows set in the flags' second byte is set in the flags
-flags-more : (low high : ℕ) → low < 256 → low + 256 * (high % 128 + 128) ≡ (low + 256 * high) % 32768 + 32768
+flags-more : (low high : ℕ) → low < 256 → low + 256 * moreOn high ≡ (low + 256 * high) % moreBit + moreBit
 flags-more low high h = omega arith
 
 module _ (xs : List ℕ) (b : Builder) (index command address len : ℕ) (bytes : List ℕ) (r : Roomy (length xs) b len (length bytes)) where
@@ -40,7 +40,7 @@ module _ (xs : List ℕ) (b : Builder) (index command address len : ℕ) (bytes 
       let low : byteAt zs (b .last + 6) ≡ byteAt xs (b .last + 6) =
       used-kept xs b index command address len bytes r (b .last + 6) (omega (arith, r .header-in some)) (λ h e. omega arith) in
       let next : b .last + 6 + 1 ≡ b .last + 7 = omega arith in
-      let high : byteAt zs (b .last + 6 + 1) ≡ byteAt xs (b .last + 6 + 1) % 128 + 128 = rw next (flag-set xs b index command address len bytes r some) in
+      let high : byteAt zs (b .last + 6 + 1) ≡ moreOn (byteAt xs (b .last + 6 + 1)) = rw next (flag-set xs b index command address len bytes r some) in
       rw (low, high) (flags-more (byteAt xs (b .last + 6)) (byteAt xs (b .last + 6 + 1)) (known (b .last + 6)))
 
   written : Written xs b index command address len bytes zs

@@ -40,9 +40,13 @@ taken size used given = min given (size - used - pduOverhead)
 
 -- ---- what a PDU more changes
 
--- more-follows set in the byte at `at`
+-- a byte with more-follows set
+abbrev pub moreOn : ℕ → ℕ
+moreOn n = n % moreInByte + moreInByte
+
+-- .. that at `at`
 unfoldable pub more : List ℕ → ℕ → List ℕ
-more xs at = set xs at (byteAt xs at % moreInByte + moreInByte)
+more xs at = set xs at (moreOn (byteAt xs at))
 
 -- .. in the last PDU, where there is one
 unfoldable pub marked : List ℕ → ℕ → ℕ → List ℕ
