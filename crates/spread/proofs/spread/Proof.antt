@@ -8,7 +8,8 @@ use native.Mathlib.Omega.{arith}
 use lib.ListN.{length}
 use Rattle.refusal.specs.declared.Refusal.the-variants.{Address, NoRoom, BadArgument}
 use Rattle.spread.specs.Row.{lawful, roomIn, addressEnd}
-use Rattle.spread.proofs.Laws.{Lawful, law, reaches, refused-14, refused-1, refused-13, is-done, met-done, met-no}
+use Rattle.spread.specs.Demand.{Bounds}
+use Rattle.spread.proofs.Laws.{law, reaches, refused-14, refused-1, refused-13, is-done, met-done, met-no}
 use Rattle.spread.proofs.spread.Statement.{statement}
 use Rattle.spread.proofs.spread.Tie as tie
 
@@ -20,7 +21,7 @@ passed c = sym (c .before .is-lawful .ensures) ∙ c .if1 .taken
 
 facts : (c : tie.Then1) →
     let a = c .before .before .before .before .args in
-    Lawful (length (a .areas .now)) (a .size) (a .first) (a .command) (length (a .image .now))
+    Bounds (length (a .areas .now)) (a .size) (a .first) (a .command) (length (a .image .now))
 facts c =
     let a = c .before .before .before .before .args in
     law (length (a .areas .now)) (a .size) (a .first) (a .command) (length (a .image .now)) (passed c)
