@@ -59,7 +59,7 @@ module _ (image : List ℕ) (number : ℕ) where
 pub data Why (image : List ℕ) (number w e : ℕ) (s : Said) : Type 0 where
   none : NoFurther image w e → s ≡ absent → Why image number w e s
   named : Followed image w e → typeAt image w ≡ number → s ≡ newSaid (w + headerWords) (lengthAt image w) → Why image number w e s
-  over : Followed image w e → (typeAt image w ≡ number → ⊥) → (typeAt image w ≡ endMark → ⊥) → wordMost < w + headerWords + lengthAt image w →
+  leads : Followed image w e → (typeAt image w ≡ number → ⊥) → (typeAt image w ≡ endMark → ⊥) → wordMost < w + headerWords + lengthAt image w →
       s ≡ refuses 1 [] → Why image number w e s
 
 -- each test of the decision, by whether it holds
@@ -73,7 +73,7 @@ module _ (image : List ℕ) (number w e : ℕ) (s : Said) (type len : ℕ) (t : 
       named (record { inside = ltb-false _ _ a; few = rw l (leb-false _ _ b) }) (t ∙ eqb-true _ _ c) (rw l cc)
   tests-why false false false true t₅ a b c d f p = none (mark (t ∙ eqb-true _ _ d)) cc
   tests-why false false false false true a b c d f p =
-      over (record { inside = ltb-false _ _ a; few = rw l (leb-false _ _ b) }) (rw t (eqb-false _ _ c)) (rw t (eqb-false _ _ d)) (rw l (ltb-true _ _ f)) cc
+      leads (record { inside = ltb-false _ _ a; few = rw l (leb-false _ _ b) }) (rw t (eqb-false _ _ c)) (rw t (eqb-false _ _ d)) (rw l (ltb-true _ _ f)) cc
   tests-why false false false false false a b c d f p = let z : _≡_ {A = ℕ} 0 1 = cc in absurd (omega arith)
 
 pub step-why : (image : List ℕ) (number w e : ℕ) (s : Said) → done s ≡ stepped image number w e → Why image number w e s
