@@ -120,7 +120,9 @@ fn end_inside(image: &[u8], chunk: Chunk, word: u32, found: Found) -> InsideAnsw
 {
     match found {
         Found::At(g) => InsideAnswer::Inside((g.end as usize) <= image.len()),
-        Found::Absent => InsideAnswer::Inside((header_end(image, chunk, word) as usize) <= image.len()),
+        Found::Absent => InsideAnswer::Inside(
+            (header_end(image, chunk, word) as usize) <= image.len(),
+        ),
         Found::No(x) => InsideAnswer::No(x),
     }
 }
