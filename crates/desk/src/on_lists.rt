@@ -1,11 +1,9 @@
 // The requests that read the SII's lists: sync managers, FMMUs, PDOs.
 use crate::numbers::at;
-use crate::numbers::bit;
 use crate::numbers::chunk;
 use crate::numbers::put;
 use crate::numbers::put_all;
 use crate::numbers::wide8;
-use crate::numbers::wide16;
 use crate::reply::Reply;
 use crate::reply::gives_row;
 use crate::reply::refuses;
@@ -17,6 +15,8 @@ use lists::Pdo;
 use lists::PdoList;
 use lists::SyncManager;
 use lists::SyncManagers;
+use lists::pdo_row;
+use lists::sync_manager_row;
 use wire::lesser;
 
 const SMS: u64 = 0x736d7320_20202020;
@@ -56,22 +56,8 @@ pub(crate) fn listed(row: &mut [u64], answer: ListAnswer, values: usize) -> Repl
     }
 }
 
-fn sm_row(s: SyncManager) -> [u64; 9] {
-    [
-        wide16(s.start_addr),
-        wide16(s.length_bytes),
-        wide8(s.operation_mode),
-        wide8(s.direction),
-        bit(s.ecat_event_enable),
-        bit(s.dls_user_event_enable),
-        bit(s.watchdog_enable),
-        wide8(s.enable),
-        wide8(s.usage_type),
-    ]
-}
-
 fn put_sm(row: &mut [u64], k: usize, s: SyncManager) -> usize {
-    let xs = sm_row(s);
+    let xs = sync_manager_row(s);
     put_all(row, k, &xs)
 }
 
@@ -122,15 +108,6 @@ fn pdos(row: &mut [u64], image: &[u8], wide: Chunk, number: u64) -> Reply {
         51 => of_pdos(row, lists::maindevice_write_pdos(image, wide)),
         _ => unreadable(row),
     }
-}
-
-fn pdo_row(p: Pdo) -> [u64; 4] {
-    [
-        wide16(p.index),
-        wide8(p.num_entries),
-        wide8(p.sync_manager),
-        wide16(p.bit_len),
-    ]
 }
 
 fn put_pdo(row: &mut [u64], k: usize, p: Pdo) -> usize {
