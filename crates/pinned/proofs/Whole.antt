@@ -16,12 +16,13 @@ use Rattle.eeprom.specs.Image.{widthOf, chunkOf}
 use Rattle.eeprom.specs.declared.Chunk.{Chunk}
 use Rattle.eeprom.specs.declared.Chunk.the-variants as chunk
 use Rattle.eeprom.proofs.Unique.{range-unique, byte-unique, reading-unique, exact-unique, writing-unique}
-use Rattle.category.proofs.Unique.{found-unique as category-unique}
+use Rattle.category.proofs.Unique.{found-unique as category-unique, inside-unique}
 use Rattle.sii.proofs.Unique.{alias-unique, set-unique, identity-unique, mailbox-unique, size-unique, general-unique, found-unique}
 use Rattle.setup.proofs.Unique.{pdi-unique, bootstrap-unique, version-unique, checksum-unique}
 use Rattle.lists.proofs.Unique.{sms-unique, fmmus-unique, pdos-unique}
 use Rattle.clock.proofs.Unique.{clocks-unique}
 use Rattle.strings.proofs.Unique.{string-unique}
+use Rattle.ports.specs.declared.Assigned.{Assigned}
 use Rattle.ports.proofs.Unique.{port-unique, time-unique, topology-unique, text-unique}
 use Rattle.pdu.proofs.Unique.{frame-header-unique}
 use Rattle.created_frame.proofs.Unique.{opened-unique, push-unique, rest-push-unique, can-unique}
@@ -53,6 +54,7 @@ module _ {M : Type 1} (𝓤 : URA M) (H : Heap 𝓤) (A : Atoms 𝓤) (mem : Mem
     «wire::byte_at» = λ κs a g r s ws vs. one 𝓤 (λ p q. (same p q, refl));
     «wire::word_at» = λ κs a g r s ws vs. one 𝓤 (λ p q. (same p q, refl));
     «wire::long_at» = λ κs a g r s ws vs. one 𝓤 (λ p q. (same p q, refl));
+    «wire::flag» = λ κs a g r s ws vs. one 𝓤 (λ p q. (same p q, refl));
     «wire::lesser» = λ κs a g r s ws vs. one 𝓤 (λ p q. (same p q, refl));
     «wire::lay» = λ κs a g r s ws vs. one 𝓤 (λ p q. (refl, ap (λ l. (l, (tt, (tt, tt)))) (same p q)));
     «wire::fill» = λ κs a g r s ws vs. one 𝓤 (λ p q. (refl, ap (λ l. (l, (tt, tt))) (same p q)));
@@ -74,6 +76,7 @@ module _ {M : Type 1} (𝓤 : URA M) (H : Heap 𝓤) (A : Atoms 𝓤) (mem : Mem
     «eeprom::Range::write» = λ κs a g r s ws vs. two 𝓤 (λ p q p′ q′. (writing-unique r s _ p q, ap (λ l. (tt, (l, (tt, tt)))) (same p′ q′)));
     -- ---- category
     «category::category» = λ κs a m g h r s ws vs. one 𝓤 (λ p q. (category-unique r s _ p q, refl));
+    «category::category_inside» = λ κs a m g h r s ws vs. one 𝓤 (λ p q. (inside-unique r s _ p q, refl));
     -- ---- sii
     «sii::station_alias» = λ κs a m g h r s ws vs. one 𝓤 (λ p q. (alias-unique r s _ p q, refl));
     «sii::set_station_alias» = λ κs a g r s ws vs. two 𝓤 (λ p q p′ q′. (set-unique r s _ p q, ap (λ l. (l, (tt, tt))) (same p′ q′)));
@@ -82,19 +85,28 @@ module _ {M : Type 1} (𝓤 : URA M) (H : Heap 𝓤) (A : Atoms 𝓤) (mem : Mem
     «sii::size» = λ κs a m g h r s ws vs. one 𝓤 (λ p q. (size-unique r s _ p q, refl));
     «sii::general» = λ κs a m g h r s ws vs. one 𝓤 (λ p q. (general-unique r s _ p q, refl));
     «sii::find_general» = λ κs a m g h r s ws vs. one 𝓤 (λ p q. (found-unique r s _ p q, refl));
+    «sii::identity_row» = λ κs a g r s ws vs. one 𝓤 (λ p q. (same p q, refl));
+    «sii::mailbox_row» = λ κs a g r s ws vs. one 𝓤 (λ p q. (same p q, refl));
+    «sii::general_row» = λ κs a g r s ws vs. one 𝓤 (λ p q. (same p q, refl));
     -- ---- setup
     «setup::pdi_control» = λ κs a m g h r s ws vs. one 𝓤 (λ p q. (pdi-unique r s _ p q, refl));
     «setup::bootstrap_mailbox» = λ κs a m g h r s ws vs. one 𝓤 (λ p q. (bootstrap-unique r s _ p q, refl));
     «setup::version» = λ κs a m g h r s ws vs. one 𝓤 (λ p q. (version-unique r s _ p q, refl));
     «setup::checksum» = λ κs a m g h r s ws vs. one 𝓤 (λ p q. (checksum-unique r s _ p q, refl));
+    «setup::pdi_row» = λ κs a g r s ws vs. one 𝓤 (λ p q. (same p q, refl));
+    «setup::bootstrap_row» = λ κs a g r s ws vs. one 𝓤 (λ p q. (same p q, refl));
+    «setup::checksum_row» = λ κs a g r s ws vs. one 𝓤 (λ p q. (same p q, refl));
     -- ---- lists
     «lists::sync_managers» = λ κs a m g h r s ws vs. one 𝓤 (λ p q. (sms-unique r s _ p q, refl));
     «lists::fmmus» = λ κs a m g h r s ws vs. one 𝓤 (λ p q. (fmmus-unique r s _ p q, refl));
     «lists::fmmu_mappings» = λ κs a m g h r s ws vs. one 𝓤 (λ p q. (fmmus-unique r s _ p q, refl));
     «lists::maindevice_read_pdos» = λ κs a m g h r s ws vs. one 𝓤 (λ p q. (pdos-unique r s _ p q, refl));
     «lists::maindevice_write_pdos» = λ κs a m g h r s ws vs. one 𝓤 (λ p q. (pdos-unique r s _ p q, refl));
+    «lists::sync_manager_row» = λ κs a g r s ws vs. one 𝓤 (λ p q. (same p q, refl));
+    «lists::pdo_row» = λ κs a g r s ws vs. one 𝓤 (λ p q. (same p q, refl));
     -- ---- clock
     «clock::distributed_clocks» = λ κs a m g h r s ws vs. one 𝓤 (λ p q. (clocks-unique r s _ p q, refl));
+    «clock::clock_row» = λ κs a g r s ws vs. one 𝓤 (λ p q. (same p q, refl));
     -- ---- strings
     «strings::find_string» = λ κs a m g h r s ws vs. two 𝓤 (λ p q p′ q′. (string-unique r s _ p q, ap (λ l. (tt, (tt, (tt, (l, tt))))) (same p′ q′)));
     «strings::device_name» = λ κs a m g h r s ws vs. two 𝓤 (λ p q p′ q′. (string-unique r s _ p q, ap (λ l. (tt, (tt, (l, tt)))) (same p′ q′)));
@@ -108,12 +120,13 @@ module _ {M : Type 1} (𝓤 : URA M) (H : Heap 𝓤) (A : Atoms 𝓤) (mem : Mem
     «ports::Ports::total_propagation_time» = λ κs a g r s ws vs. one 𝓤 (λ p q. (time-unique r s _ p q, refl));
     «ports::Ports::propagation_time_to» = λ κs a g r s ws vs. one 𝓤 (λ p q. (time-unique r s _ p q, refl));
     «ports::Ports::intermediate_propagation_time_to» = λ κs a g r s ws vs. one 𝓤 (λ p q. (time-unique r s _ p q, refl));
-    «ports::Ports::assign_next_downstream_port» = λ κs a g r s ws vs. one 𝓤 (λ p q. (same p q, refl));
+    «ports::Ports::assign_next_downstream_port» = λ κs a g r s ws vs. one 𝓤 (λ p q. (ap₂ {C = Assigned} (λ x y. record { answer = x; ports = y }) (port-unique (r .answer) (s .answer) _ (p .0) (q .0)) (same (p .1) (q .1)), refl));
     «ports::Ports::port_assigned_to» = λ κs a g r s ws vs. one 𝓤 (λ p q. (port-unique r s _ p q, refl));
     «ports::Ports::display» = λ κs a g r s ws vs. two 𝓤 (λ p q p′ q′. (text-unique r s _ p q, ap (λ l. (tt, (l, tt))) (same p′ q′)));
     -- ---- pdu
     «pdu::pack_header» = λ κs a g r s ws vs. one 𝓤 (λ p q. (same p q, refl));
     «pdu::frame_header» = λ κs a g r s ws vs. one 𝓤 (λ p q. (frame-header-unique _ r s p q, refl));
+    «pdu::pdu_row» = λ κs a g r s ws vs. one 𝓤 (λ p q. (same p q, refl));
     «pdu::ends_rightly» = λ κs a g r s ws vs. one 𝓤 (λ p q. (same p q, refl));
     -- ---- created_frame
     «created_frame::open» = λ κs a g r s ws vs. two 𝓤 (λ p q p′ q′. (opened-unique r s _ p q, ap (λ l. (l, tt)) (same p′ q′)));
@@ -121,6 +134,8 @@ module _ {M : Type 1} (𝓤 : URA M) (H : Heap 𝓤) (A : Atoms 𝓤) (mem : Mem
     «created_frame::push_pdu_slice_rest» = λ κs a g r s ws vs. three 𝓤 (λ p q p′ q′ p″ q″. (rest-push-unique _ _ _ r s (p, p′) (q, q′), ap (λ l. (l, (tt, (tt, (tt, (tt, (tt, tt))))))) (same p″ q″)));
     «created_frame::can_push_pdu_payload» = λ κs a g r s ws vs. one 𝓤 (λ p q. (can-unique r s _ p q, refl));
     «created_frame::is_sound» = λ κs a g r s ws vs. one 𝓤 (λ p q. (same p q, refl));
+    «created_frame::state_row» = λ κs a g r s ws vs. one 𝓤 (λ p q. (same p q, refl));
+    «created_frame::handle_row» = λ κs a g r s ws vs. one 𝓤 (λ p q. (same p q, refl));
     -- ---- frame_reader
     «frame_reader::read_frame» = λ κs a g r s ws vs. one 𝓤 (λ p q. (read-frame-unique _ r s p q, refl));
     -- ---- spread
@@ -144,8 +159,8 @@ module _ {M : Type 1} (𝓤 : URA M) (H : Heap 𝓤) (A : Atoms 𝓤) (mem : Mem
     «held::byte_in» = λ κs a m g h r s ws vs. one 𝓤 (λ p q. (ap₂ {C = ByteStep} (λ x y. record { answer = x; «byte_pos» = y }) (byte-read-unique (r .answer) (s .answer) _ (p .0) (q .0)) (same (p .1) (q .1)), refl));
     «held::write_in» = λ κs a g r s ws vs. one 𝓤 (λ p q. (ap₂ {C = CountStep} (λ x y. record { answer = x; «byte_pos» = y }) (counted-unique (r .answer) (s .answer) _ (p .0 .0) (q .0 .0)) (same (p .0 .1) (q .0 .1)), ap (λ l. (l, (tt, (tt, (tt, tt))))) (same (p .1) (q .1))));
     «held::set_receive_times» = λ κs a g r s ws vs. one 𝓤 (λ p q. (refl, ap (λ l. (l, (tt, (tt, (tt, (tt, tt)))))) (same p q)));
-    «held::assign_next_downstream_port» = λ κs a g r s ws vs. one 𝓤 (λ p q. (same (p .0) (q .0), ap (λ l. (l, (tt, tt))) (same (p .1) (q .1))));
-    «held::after_assign» = λ κs a g r s ws vs. one 𝓤 (λ p q. (same p q, refl));
+    «held::assign_next_downstream_port» = λ κs a g r s ws vs. one 𝓤 (λ p q. (port-unique r s _ (p .0) (q .0), ap (λ l. (l, (tt, tt))) (same (p .1) (q .1))));
+    «held::after_assign» = λ κs a g r s ws vs. one 𝓤 (λ p q. (ap₂ {C = Assigned} (λ x y. record { answer = x; ports = y }) (port-unique (r .answer) (s .answer) _ (p .0) (q .0)) (same (p .1) (q .1)), refl));
     -- ---- export
     «export::read_out::morel_crc» = λ κs a g r s ws vs. one 𝓤 (λ p q. (same p q, refl));
     «export::read_out::morel_station_alias» = λ κs a g r s ws vs. two 𝓤 (λ p q p′ q′. (same p q, ap (λ l. (tt, (l, tt))) (same p′ q′)));

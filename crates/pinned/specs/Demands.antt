@@ -11,6 +11,10 @@ use contract.Monad.{Fun, fact}
 use denote.Ref.{now}
 use denote.Triple.Entry.{Args, Res}
 use denote.Triple.Clauses.{Ended, AtExit}
+use Rattle.created_frame.proofs as of-created-frame
+use Rattle.created_frame.specs.Pushes.{Pushes}
+use Rattle.frame_reader.proofs as of-frame-reader
+use Rattle.frame_reader.specs.Reads.{Reads}
 use Rattle.spread.proofs as of-spread
 use Rattle.spread.specs.Demand.{Demand3}
 use Rattle.pinned.specs.Whole.{Contract}
@@ -25,6 +29,11 @@ module _ {M : Type 1} (𝓤 : URA M) (H : Heap 𝓤) (A : Atoms 𝓤) (mem : Mem
       → ent 𝓤 (c κs a .ensures g r e) (fact 𝓤 (Demand κs a r e))
 
   pub record EveryDemand : Type 1 where
+    -- RULES, frames: a push
+    pub «created_frame::push_pdu» : Meets of-created-frame.push_pdu.ended of-created-frame.push_pdu.clauses
+        (λ κs a r e. Pushes (now (a .0)) (a .1 .0) (a .1 .1 .0) (a .1 .1 .1 .0) (a .1 .1 .1 .1 .0) (now (a .1 .1 .1 .1 .1 .0)) (a .1 .1 .1 .1 .1 .1 .0) r (now (e .0)))
+    -- RULES, reader: a frame that is read
+    pub «frame_reader::read_frame» : Meets of-frame-reader.read_frame.ended of-frame-reader.read_frame.clauses (λ κs a r e. Reads (now (a .0)) r)
     -- RULES, spreading: an image over a row of areas
     pub «spread::spread» : Meets of-spread.spread.ended of-spread.spread.clauses
         (λ κs a r e. Demand3 (now (a .0)) (a .1 .0) (a .1 .1 .0) (a .1 .1 .1 .0) (a .1 .1 .1 .1 .0) (a .1 .1 .1 .1 .1 .0) (now (a .1 .1 .1 .1 .1 .1 .0)) r (now (e .0)))

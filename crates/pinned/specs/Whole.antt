@@ -89,6 +89,7 @@ module _ {M : Type 1} (𝓤 : URA M) (H : Heap 𝓤) (A : Atoms 𝓤) (mem : Mem
     pub «wire::byte_at» : Whole of-wire.byte_at.ended of-wire.byte_at.clauses
     pub «wire::word_at» : Whole of-wire.word_at.ended of-wire.word_at.clauses
     pub «wire::long_at» : Whole of-wire.long_at.ended of-wire.long_at.clauses
+    pub «wire::flag» : Whole of-wire.flag.ended of-wire.flag.clauses
     pub «wire::lesser» : Whole of-wire.lesser.ended of-wire.lesser.clauses
     pub «wire::lay» : Whole of-wire.lay.ended of-wire.lay.clauses
     pub «wire::fill» : Whole of-wire.fill.ended of-wire.fill.clauses
@@ -111,6 +112,7 @@ module _ {M : Type 1} (𝓤 : URA M) (H : Heap 𝓤) (A : Atoms 𝓤) (mem : Mem
     pub «eeprom::Range::write» : Whole of-eeprom.Range.write.ended of-eeprom.Range.write.clauses
     -- ---- category
     pub «category::category» : Wide of-category.category.ended of-category.category.clauses second alike
+    pub «category::category_inside» : Wide of-category.category_inside.ended of-category.category_inside.clauses second alike
     -- ---- sii
     pub «sii::station_alias» : Wide of-sii.station_alias.ended of-sii.station_alias.clauses second alike
     pub «sii::set_station_alias» : Whole of-sii.set_station_alias.ended of-sii.set_station_alias.clauses
@@ -119,19 +121,28 @@ module _ {M : Type 1} (𝓤 : URA M) (H : Heap 𝓤) (A : Atoms 𝓤) (mem : Mem
     pub «sii::size» : Wide of-sii.size.ended of-sii.size.clauses second alike
     pub «sii::general» : Wide of-sii.general.ended of-sii.general.clauses second alike
     pub «sii::find_general» : Wide of-sii.find_general.ended of-sii.find_general.clauses second alike
+    pub «sii::identity_row» : Whole of-sii.identity_row.ended of-sii.identity_row.clauses
+    pub «sii::mailbox_row» : Whole of-sii.mailbox_row.ended of-sii.mailbox_row.clauses
+    pub «sii::general_row» : Whole of-sii.general_row.ended of-sii.general_row.clauses
     -- ---- setup
     pub «setup::pdi_control» : Wide of-setup.pdi_control.ended of-setup.pdi_control.clauses second alike
     pub «setup::bootstrap_mailbox» : Wide of-setup.bootstrap_mailbox.ended of-setup.bootstrap_mailbox.clauses second alike
     pub «setup::version» : Wide of-setup.version.ended of-setup.version.clauses second alike
     pub «setup::checksum» : Wide of-setup.checksum.ended of-setup.checksum.clauses second alike
+    pub «setup::pdi_row» : Whole of-setup.pdi_row.ended of-setup.pdi_row.clauses
+    pub «setup::bootstrap_row» : Whole of-setup.bootstrap_row.ended of-setup.bootstrap_row.clauses
+    pub «setup::checksum_row» : Whole of-setup.checksum_row.ended of-setup.checksum_row.clauses
     -- ---- lists
     pub «lists::sync_managers» : Wide of-lists.sync_managers.ended of-lists.sync_managers.clauses second alike
     pub «lists::fmmus» : Wide of-lists.fmmus.ended of-lists.fmmus.clauses second alike
     pub «lists::fmmu_mappings» : Wide of-lists.fmmu_mappings.ended of-lists.fmmu_mappings.clauses second alike
     pub «lists::maindevice_read_pdos» : Wide of-lists.maindevice_read_pdos.ended of-lists.maindevice_read_pdos.clauses second alike
     pub «lists::maindevice_write_pdos» : Wide of-lists.maindevice_write_pdos.ended of-lists.maindevice_write_pdos.clauses second alike
+    pub «lists::sync_manager_row» : Whole of-lists.sync_manager_row.ended of-lists.sync_manager_row.clauses
+    pub «lists::pdo_row» : Whole of-lists.pdo_row.ended of-lists.pdo_row.clauses
     -- ---- clock
     pub «clock::distributed_clocks» : Wide of-clock.distributed_clocks.ended of-clock.distributed_clocks.clauses second alike
+    pub «clock::clock_row» : Whole of-clock.clock_row.ended of-clock.clock_row.clauses
     -- ---- strings
     pub «strings::find_string» : Wide of-strings.find_string.ended of-strings.find_string.clauses second alike
     pub «strings::device_name» : Wide of-strings.device_name.ended of-strings.device_name.clauses second alike
@@ -151,6 +162,7 @@ module _ {M : Type 1} (𝓤 : URA M) (H : Heap 𝓤) (A : Atoms 𝓤) (mem : Mem
     -- ---- pdu
     pub «pdu::pack_header» : Whole of-pdu.pack_header.ended of-pdu.pack_header.clauses
     pub «pdu::frame_header» : Whole of-pdu.frame_header.ended of-pdu.frame_header.clauses
+    pub «pdu::pdu_row» : Whole of-pdu.pdu_row.ended of-pdu.pdu_row.clauses
     pub «pdu::ends_rightly» : Whole of-pdu.ends_rightly.ended of-pdu.ends_rightly.clauses
     -- ---- created_frame
     pub «created_frame::open» : Whole of-created-frame.«open».ended of-created-frame.«open».clauses
@@ -158,6 +170,8 @@ module _ {M : Type 1} (𝓤 : URA M) (H : Heap 𝓤) (A : Atoms 𝓤) (mem : Mem
     pub «created_frame::push_pdu_slice_rest» : Whole of-created-frame.push_pdu_slice_rest.ended of-created-frame.push_pdu_slice_rest.clauses
     pub «created_frame::can_push_pdu_payload» : Whole of-created-frame.can_push_pdu_payload.ended of-created-frame.can_push_pdu_payload.clauses
     pub «created_frame::is_sound» : Whole of-created-frame.is_sound.ended of-created-frame.is_sound.clauses
+    pub «created_frame::state_row» : Whole of-created-frame.state_row.ended of-created-frame.state_row.clauses
+    pub «created_frame::handle_row» : Whole of-created-frame.handle_row.ended of-created-frame.handle_row.clauses
     -- ---- frame_reader
     pub «frame_reader::read_frame» : Whole of-frame-reader.read_frame.ended of-frame-reader.read_frame.clauses
     -- ---- spread
