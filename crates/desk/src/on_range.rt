@@ -14,9 +14,11 @@ use crate::reply::with_slice;
 use eeprom::ByteAnswer;
 use eeprom::Chunk;
 use eeprom::Exact;
+use eeprom::ExactRead;
 use eeprom::Range;
 use eeprom::RangeAnswer;
 use eeprom::Reading;
+use eeprom::WordsWritten;
 use eeprom::Writing;
 use refusal::Refusal;
 
@@ -135,30 +137,32 @@ fn read(image: &[u8], chunk: Chunk, g: Range, buf: &mut [u8], row: &mut [u64]) -
     with_slice(of_reading(row, r, g), SECOND, k)
 }
 
-fn of_exact(row: &mut [u64], r: Exact, g: Range) -> Reply {
-    match r {
-        Exact::Full(after) => gives_range(row, after),
-        Exact::Short(after) => refuses_range(row, Refusal::Overrun, after),
-        Exact::No(x) => refuses_range(row, x, g),
+fn of_exact(row: &mut [u64], r: ExactRead) -> Reply {
+    let after = r.range;
+    let answer = r.answer;
+    match answer {
+        Exact::Full => gives_range(row, after),
+        Exact::No(x) => refuses_range(row, x, after),
     }
 }
 
 fn exact(image: &[u8], chunk: Chunk, g: Range, buf: &mut [u8], row: &mut [u64]) -> Reply {
     let k = buf.len();
     let r = g.read_exact(image, chunk, buf);
-    with_slice(of_exact(row, r, g), SECOND, k)
+    with_slice(of_exact(row, r), SECOND, k)
 }
 
-fn of_writing(row: &mut [u64], r: Writing, g: Range) -> Reply {
-    match r {
-        Writing::Written(n, after) => one_and_range(row, n as u64, after),
-        Writing::Stopped(after) => refuses_range(row, Refusal::NotWritable, after),
-        Writing::No(x) => refuses_range(row, x, g),
+fn of_writing(row: &mut [u64], r: WordsWritten) -> Reply {
+    let after = r.range;
+    let answer = r.answer;
+    match answer {
+        Writing::Written(n) => one_and_range(row, n as u64, after),
+        Writing::No(x) => refuses_range(row, x, after),
     }
 }
 
 fn write(image: &mut [u8], g: Range, bytes: &[u8], row: &mut [u64]) -> Reply {
     let k = image.len();
     let r = g.write(image, bytes);
-    with_slice(of_writing(row, r, g), FIRST, k)
+    with_slice(of_writing(row, r), FIRST, k)
 }
