@@ -13,6 +13,7 @@ use crate::reply::with_record;
 use crate::reply::with_slice;
 use eeprom::Chunk;
 use eeprom::Exact;
+use eeprom::ExactRead;
 use eeprom::Range;
 use eeprom::RangeAnswer;
 use eeprom::Reading;
@@ -148,18 +149,19 @@ fn read(image: &[u8], chunk: Chunk, g: Range, buf: &mut [u8], row: &mut [u64]) -
     with_slice(of_reading(row, r, g), SECOND, k)
 }
 
-fn of_exact(row: &mut [u64], r: Exact, g: Range) -> Reply {
-    match r {
-        Exact::Full(after) => gives_range(row, after),
-        Exact::Short(after) => refuses_range(row, Refusal::Overrun, after),
-        Exact::No(x) => refuses_range(row, x, g),
+fn of_exact(row: &mut [u64], r: ExactRead) -> Reply {
+    let after = r.range;
+    let answer = r.answer;
+    match answer {
+        Exact::Full => gives_range(row, after),
+        Exact::No(x) => refuses_range(row, x, after),
     }
 }
 
 fn exact(image: &[u8], chunk: Chunk, g: Range, buf: &mut [u8], row: &mut [u64]) -> Reply {
     let k = buf.len();
     let r = g.read_exact(image, chunk, buf);
-    with_slice(of_exact(row, r, g), SECOND, k)
+    with_slice(of_exact(row, r), SECOND, k)
 }
 
 fn of_writing(row: &mut [u64], s: CountStep, end: u16) -> Reply {

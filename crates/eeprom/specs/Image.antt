@@ -16,7 +16,15 @@ imageMost = 65536
 abbrev pub endMost : ℕ
 endMost = 65535
 
--- the image has no more bytes than that
+-- the largest number of 32 bits: places and counts of the readers behind the public calls stay within it
+abbrev pub longMost : ℕ
+longMost = 4294967295
+
+-- far past every place that 32 bits name: within it a sum of places does not overflow
+abbrev pub farMost : ℕ
+farMost = 1099511627776
+
+-- the image has no more bytes than an image may have
 unfoldable pub within : List ℕ → Bool
 within image = leb (length image) imageMost
 
