@@ -13,7 +13,7 @@ use Rattle.wire.specs.Bytes.{byteAt}
 use Rattle.eeprom.specs.Image.{imageMost, within}
 use Rattle.eeprom.specs.Range.{newSaid}
 use Rattle.eeprom.proofs.Laws.{within-is}
-use Rattle.category.specs.Layout.{headerWords, typeAt, lengthAt, endMark, wordMost}
+use Rattle.category.specs.Layout.{markWords, headerWords, typeAt, lengthAt, endMark, wordMost}
 use Rattle.category.specs.Category.{numbers, among, Stepped, done, next, stepped, searched, categorySaid}
 use Rattle.category.specs.First.{Passes, HeaderAt, first, behind, FirstOf}
 use Rattle.category.specs.Inside.{headerEnd, Inside, onward, lastOver, lastFrom, lastHeader, bit, endInside, insideSaid}
@@ -48,7 +48,7 @@ header-end-least : (image : List ℕ) (w : ℕ) → 2 * w ≤ headerEnd image w
 unfolding headerEnd
 header-end-least image w = go (eqb (typeAt image w) endMark)
   where
-    go : (t : Bool) → 2 * w ≤ 2 * (w + pick t 1 2)
+    go : (t : Bool) → 2 * w ≤ 2 * (w + pick t markWords headerWords)
     go true = omega arith
     go false = omega arith
 
@@ -56,7 +56,7 @@ header-end-most : (image : List ℕ) (w : ℕ) → headerEnd image w ≤ 2 * (w 
 unfolding headerEnd
 header-end-most image w = go (eqb (typeAt image w) endMark)
   where
-    go : (t : Bool) → 2 * (w + pick t 1 2) ≤ 2 * (w + 2)
+    go : (t : Bool) → 2 * (w + pick t markWords headerWords) ≤ 2 * (w + headerWords)
     go true = omega arith
     go false = omega arith
 
@@ -161,11 +161,11 @@ module _ (image more : List ℕ) (w : ℕ) where
   length-longer h = rw (byte-longer image more (2 * (w + 1)) (omega arith), byte-longer image more (2 * (w + 1) + 1) (omega arith))
 
 -- of the mark only the type lies in the image, of another header both words
-header-marked : (image : List ℕ) (w : ℕ) → typeAt image w ≡ endMark → headerEnd image w ≡ 2 * (w + 1)
+header-marked : (image : List ℕ) (w : ℕ) → typeAt image w ≡ endMark → headerEnd image w ≡ 2 * (w + markWords)
 unfolding headerEnd
 header-marked image w t = rw (eq-eqb (typeAt image w) endMark t)
 
-header-whole : (image : List ℕ) (w : ℕ) → (typeAt image w ≡ endMark → ⊥) → headerEnd image w ≡ 2 * (w + 2)
+header-whole : (image : List ℕ) (w : ℕ) → (typeAt image w ≡ endMark → ⊥) → headerEnd image w ≡ 2 * (w + headerWords)
 unfolding headerEnd
 header-whole image w t = rw (ne-eqb (typeAt image w) endMark t)
 

@@ -209,7 +209,7 @@ fn decide(category_type: u16, len_words: u16, number: u16, body: u32, e: u32) ->
         return Step::Done(Found::Absent);
     }
     if EMPTY_MOST <= e {
-        return Step::Done(Found::Absent);
+        return Step::Done(Found::Absent); // even if it is of the number sought
     }
     if category_type == number {
         return Step::Done(as_found(Range::new(body as u16, len_words)));
