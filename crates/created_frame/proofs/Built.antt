@@ -20,6 +20,7 @@ use Rattle.pdu.proofs.Rows.{pdu-length, layout-none, layout-length, append-leng
 use Rattle.pdu.proofs.Reading.{frame-read, frame-payloads}
 use Rattle.created_frame.specs.declared.Builder.{Builder}
 use Rattle.created_frame.specs.Frame.{moreOn, more, marked, sound, acceptable, room, withPdu, grown, fresh, afterOpen, pushedBuilder, afterPush, taken, restBuilder, afterRest}
+use Rattle.created_frame.proofs.Whole.{pdu-behind}
 use Rattle.created_frame.specs.Built.{made, pushAdds, restAdds, Ours, just-opened, then-pushed, then-rest, Built, Call, a-push, a-rest, Kept, openedWith, called, adds, run, runAdds, Addressed}
 
 -- ---- more-follows set in a row of PDUs
@@ -118,7 +119,7 @@ module _ (ps : List Pdu) (xs : List ℕ) (b : Builder) (h : Built ps xs b) where
         rw (m, u) (overlay-behind (chained ps) (zeros (h .free)) ys) in
         let z : ys ++ drop (length ys) (zeros (h .free)) ≡ pduBytes q 0 ++ zeros (h .free - (len + 12)) =
         ap (λ (k : ℕ). ys ++ drop (length ys) (zeros k)) f ∙ pdu-zeros index command address given len (h .free - (len + 12)) le in
-        o ∙ ap (λ (t : List ℕ). chained ps ++ t) z ∙ sym (append-assoc (chained ps) (pduBytes q 0) (zeros (h .free - (len + 12))))
+        pdu-behind xs b index command address len given ∙ o ∙ ap (λ (t : List ℕ). chained ps ++ t) z ∙ sym (append-assoc (chained ps) (pduBytes q 0) (zeros (h .free - (len + 12))))
         ∙ ap (λ (t : List ℕ). t ++ zeros (h .free - (len + 12))) (sym (layout-snoc ps q))
 
     -- one PDU more

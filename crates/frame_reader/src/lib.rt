@@ -20,11 +20,11 @@ use wire::long_at;
 use wire::word_at;
 ghost use mathlib.Core.Path.{_≡_};
 ghost use Prim.Native.Nat.{ℕ, _+_, _-_, _*_, _≤_, _<_};
-ghost use mathlib.Core.List.{[], map};
+ghost use mathlib.Core.List.{[]};
 ghost use lib.ListN.{length, take};
 ghost use Rattle.wire.specs.Bytes.{wordPast};
 ghost use Rattle.pdu.specs.Pdu.{areaMost, headerBytes, pduOverhead, frameHeaderBytes, pdusMost};
-ghost use Rattle.pdu.specs.Read.{bad, bodyAt, placesAt, seenAt, readOf, pdusOf};
+ghost use Rattle.pdu.specs.Read.{bad, good, bodyAt, placesAt, seenAt, readOf, pdusOf};
 ghost use Rattle.frame_reader.specs.Answers.{saidFrame, readSaid, noPdu, padded};
 ghost use Rattle.frame_reader.specs.Walk.{walkedOf, placed, listing};
 
@@ -175,7 +175,7 @@ fn refused() -> FrameRead
 // The PDUs whose headers stand at the first n places.
 fn listed(s: &[u8], places: &[u16], n: usize) -> FrameRead
     requires { ⌜ (n ≤ pdusMost) × (n ≤ length (now places)) ⌝ }
-    ensures { λ r. ⌜ r ≡ record { answer = FrameAnswer.Frame; count = n; pdus = padded (map (seenAt (now (s .entry))) (take n (now (places .entry)))) } ⌝ }
+    ensures { λ r. ⌜ r ≡ listing (now (s .entry)) (good (take n (now (places .entry)))) ⌝ }
 {
     let mut l = no_pdus(FrameAnswer::Frame);
     let mut k = 0;
