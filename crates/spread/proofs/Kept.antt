@@ -69,7 +69,7 @@ module _ (row : List ℕ) (size : ℕ) (first : Builder) (index command address 
   -- THEOREM: areas past the answer aren't touched, whatever the first area held
   pub past-kept : Kept size row (out row size first index command address image .run)
   past-kept =
-      ways row size first index command address image (λ (o : Outcome). Kept size row (o .run)) (λ p. kept-none size row index) (λ p q. kept-none size row index) (λ p q r. kept-none size row index)
+      ways row size first index command address image (λ (o : Outcome). Kept size row (o .run)) (λ p. kept-none size row _) (λ p q. kept-none size row _) (λ p q r. kept-none size row _)
       (λ p q r. (let f = law (length row) size first command (length image) p in
       row-kept size command address (length row / size) (take size row) first index 0 row image
       (length-take-le size row (whole-fits f)) (omega (arith, f .row-whole))))

@@ -16,7 +16,7 @@ use Rattle.created_frame.specs.Frame.{fresh}
 use Rattle.spread.specs.declared.Spreading.{Spreading}
 use Rattle.spread.specs.declared.SpreadAnswer.the-variants.{Last, No}
 use Rattle.spread.specs.Answers.{Promised}
-use Rattle.spread.specs.Row.{addressEnd, Run, rowFrom, lawful, roomIn, padded, Outcome, done, no, spreadOf}
+use Rattle.spread.specs.Row.{addressEnd, Run, stopped, rowFrom, lawful, roomIn, padded, Outcome, done, no, spreadOf}
 use Rattle.spread.specs.Demand.{Bounds}
 
 pub padded-none : padded [] ≡ replicate 32 fresh
@@ -117,9 +117,10 @@ module _ (row : List ℕ) (size : ℕ) (first : Builder) (index command address 
       go true true false p q r = rw (refused-13 p q r) (c p q r)
       go true true true p q r = rw (is-done p q r) (d p q r)
 
-  pub met-no : (r : Spreading) (x : Refusal) → out ≡ record { said = saidOf x; run = record { areas = row; states = []; next = index } }
-      → r ≡ record { answer = No x; states = padded []; next = index } → Promised row size first index command address image r row
-  met-no r x e q = rw (e, q) (refl, ((refl, refl), refl))
+  -- what each leaves is what is promised
+  pub met-no : (r : Spreading) (x : Refusal) (ys : List ℕ) (n : ℕ) → out ≡ record { said = saidOf x; run = stopped ys n }
+      → r ≡ record { answer = No x; states = padded []; next = n } → Promised row size first index command address image r ys
+  met-no r x ys n e q = rw (e, q) (refl, ((refl, refl), refl))
 
   pub met-done : (r : Spreading) (ys : List ℕ) → out ≡ done run
       → r .answer ≡ Last (length (run .states)) → (r .states ≡ padded (run .states)) × (r .next ≡ run .next) → ys ≡ run .areas → Promised row size first index command address image r ys

@@ -9,4 +9,3 @@ pub mod Unique
 pub mod Theorem
 pub mod Demand
 pub mod Kept
-pub mod Bench

@@ -16,8 +16,8 @@ use Rattle.cuts.specs.Greedy.{greedy}
 use Rattle.cuts.proofs.Laws.{rising-last, last-most, free-later}
 use Rattle.cuts.proofs.Greedy.{carried, carries, greedy-best}
 use Rattle.created_frame.specs.declared.Builder.{Builder}
-use Rattle.created_frame.specs.Built.{Ours, Built}
-use Rattle.created_frame.proofs.Built.{ours-built, built-length, built-read, built-payloads}
+use Rattle.created_frame.specs.Built.{Built}
+use Rattle.created_frame.proofs.Built.{built-length, built-read, built-payloads}
 use Rattle.spread.specs.Row.{addressEnd, Run, stopped, freeIn, roomIn, Outcome, spreadOf}
 use Rattle.spread.specs.Laid.{laid, statesOf, newsOf, indexPast, Fitting}
 use Rattle.spread.specs.ReadBack.{frameOf, framesOf, readBack}
@@ -142,16 +142,12 @@ module _ (row : List ℕ) (size : ℕ) (first : Builder) (index command address 
 
   -- ---- THE THEOREMS, of the rule
 
-  -- an answer that is no refusal spreads the image
+  -- an answer that is no refusal spreads the image, where the first area holds PDUs and zeros
   pub answered-built : (olds : List Pdu) (k : ℕ) → Built olds (take size row) first → told ≡ gives (k ∷ []) → Spreads row size first index command address image olds (out row size first index command address image .run) k
   answered-built olds k h =
       ways row size first index command address image (λ (o : Outcome). o .said ≡ gives (k ∷ []) → Spreads row size first index command address image olds (o .run) k)
       (λ p e. absurd (gives-none _ _ _ e)) (λ p q e. absurd (gives-none _ _ _ e)) (λ p q r e. absurd (gives-none _ _ _ e))
       (λ p q r e. (let v : length (runs .states) ≡ k = cc in rw (← v) (spreads p q r olds h)))
-
-  -- .. where the first area is as our builder left it
-  pub answered : (olds : List Pdu) (k : ℕ) → Ours olds (take size row) first → told ≡ gives (k ∷ []) → Spreads row size first index command address image olds (out row size first index command address image .run) k
-  answered olds k o = answered-built olds k (ours-built o)
 
   -- a refusal changes nothing
   pub unchanged : (number : ℕ) (l : List ℕ) → told ≡ refuses number l → out row size first index command address image .run ≡ stopped row index

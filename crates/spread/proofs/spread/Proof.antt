@@ -99,7 +99,7 @@ returns-2 c =
     let r = h .before in
     let t = r .before in
     let a = t .before .before .before .before .before .args in
-    met-no (a .areas .now) (a .size) (a .first) (a .index) (a .command) (a .address) (a .image .now) (c .refused .result) NoRoom
+    met-no (a .areas .now) (a .size) (a .first) (a .index) (a .command) (a .address) (a .image .now) (c .refused .result) NoRoom _ _
     (refused-13 (a .areas .now) (a .size) (a .first) (a .index) (a .command) (a .address) (a .image .now) (passed (t .before)) (reached t)
     (lt-leb _ _ (let z : roomIn (length (a .areas .now) / a .size) (a .size) (a .first .used) < length (a .image .now) = omega (arith, h .if3 .left, r .room-for .ensures) in z)))
     (c .refused .ensures)
@@ -108,7 +108,7 @@ returns-3 : tie.Need-returns-3
 returns-3 c =
     let t = c .before in
     let a = t .before .before .before .before .before .args in
-    met-no (a .areas .now) (a .size) (a .first) (a .index) (a .command) (a .address) (a .image .now) (c .refused2 .result) Address
+    met-no (a .areas .now) (a .size) (a .first) (a .index) (a .command) (a .address) (a .image .now) (c .refused2 .result) Address _ _
     (refused-1 (a .areas .now) (a .size) (a .first) (a .index) (a .command) (a .address) (a .image .now) (passed (t .before))
     (lt-leb _ _ (let z : addressEnd < a .address + length (a .image .now) = omega (arith, t .if2 .left) in z)))
     (c .refused2 .ensures)
@@ -117,7 +117,7 @@ returns-4 : tie.Need-returns-4
 returns-4 c =
     let t = c .before in
     let a = t .before .before .before .before .args in
-    met-no (a .areas .now) (a .size) (a .first) (a .index) (a .command) (a .address) (a .image .now) (c .refused3 .result) BadArgument
+    met-no (a .areas .now) (a .size) (a .first) (a .index) (a .command) (a .address) (a .image .now) (c .refused3 .result) BadArgument _ _
     (refused-14 (a .areas .now) (a .size) (a .first) (a .index) (a .command) (a .address) (a .image .now) (failed t))
     (c .refused3 .ensures)
 

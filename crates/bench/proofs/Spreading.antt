@@ -1,4 +1,4 @@
--- Two cases of the bench that document 01 does not mark P (crate `bench` has those), and a worked example: from the definitions by computation.
+-- Two cases of a spreading that RULES, bench, does not mark P, and a worked example: from the definitions by computation.
 use mathlib.Core.Path.{_≡_, refl}
 use mathlib.Core.List.{[], _∷_, _++_}
 use Prim.Native.Nat.{ℕ}
