@@ -145,6 +145,11 @@ def _mailbox(image, _chunk):
     return said(sii.mailbox, image)
 
 
+@request(b"hasmail", *IMAGE)
+def _has_mailbox(image, _chunk):
+    return said(sii.has_mailbox, image)
+
+
 @request(b"general", *IMAGE)
 def _general(image, _chunk):
     return said(sii.general, image)
@@ -163,6 +168,11 @@ def _physical_memory_address(image, _chunk):
 @request(b"sms", *IMAGE)
 def _sync_managers(image, _chunk):
     return said(counted(sii.sync_managers), image)
+
+
+@request(b"usages", *IMAGE)
+def _usages(image, _chunk):
+    return said(counted(sii.usages), image)
 
 
 @request(b"fmmus", *IMAGE)

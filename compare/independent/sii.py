@@ -86,6 +86,12 @@ def mailbox(image):
     return fields[:4] + (_flags(fields[4], MAILBOX_UNDEFINED),)
 
 
+def has_mailbox(image):
+    """The Rust's own test: a size to send, or protocols and a size to receive."""
+    _, receive_size, _, send_size, protocols = mailbox(image)
+    return int(send_size > 0 or protocols > 0 and receive_size > 0)
+
+
 def _flags(value, undefined):
     refuse_unless(value & undefined == 0, DECODE)
     return value
@@ -197,6 +203,18 @@ def _decode_sync_manager(record, _image, _at):
         _flags(enable, ENABLE_UNDEFINED),
         _listed(usage, SYNC_MANAGER_TYPES),
     )
+
+
+# By mode and direction: process data that is read or written, a mailbox
+# likewise. Direction 0 is read by the master.
+INFERRED = {(0, 0): 4, (0, 1): 3, (2, 0): 2, (2, 1): 1}
+
+
+def usages(image):
+    """What each sync manager is for: its stored type, or where that is
+    unknown (0) the one that mode and direction tell."""
+    return [(manager[8] or INFERRED[manager[2:4]],)
+            for manager in sync_managers(image)]
 
 
 def fmmus(image):

@@ -395,6 +395,16 @@ class ReadOuts(Case):
         self.says(line.format("00108000801080004000"), "refuses 5")
         self.says(line.format("00108000801080008000"), "refuses 5")
 
+    def test_has_mailbox(self):
+        # Receive size at byte 50, send size at 54, protocols at 56.
+        for receive, send, protocols, there in (
+                (0, 0, 0, 0), (1, 0, 0, 0), (0, 0, 1, 0), (1, 0, 1, 1),
+                (0, 1, 0, 1), (1, 1, 4, 1)):
+            some = bytearray(58)
+            some[50], some[54], some[56] = receive, send, protocols
+            self.says(f"hasmail {hexed(some)} 4", f"gives {there}")
+        self.says(f"hasmail {'00' * 56} 4", "refuses 5")
+
     def test_mailbox_of_a_short_image(self):
         # Decision 8.
         self.says("mailbox " + "00" * 56 + " 4", "refuses 5")
@@ -477,6 +487,15 @@ class Lists(Case):
         other = bytes.fromhex("00000000d9000f05")
         self.says(f"sms {image((41, self.MANAGER + other))} 4",
                   "gives 2 4096 128 2 1 0 1 0 1 1 0 0 0 0 1 0 1 15 0")
+
+    def test_usages(self):
+        # Byte 4 holds mode (0, 2) and direction (0, 1), byte 7 the usage.
+        for control, stored, told in ((0x00, 0, 4), (0x04, 0, 3), (0x02, 0, 2),
+                                      (0x06, 0, 1), (0x00, 1, 1), (0x06, 4, 4),
+                                      (0x06, 9, 1)):
+            manager = bytes([0, 0, 0, 0, control, 0, 0, stored])
+            self.says(f"usages {image((41, manager))} 4", f"gives 1 {told}")
+        self.says("usages - 4", "gives 0")
 
     def test_partial_record_ends_the_list(self):
         self.says(f"sms {image((41, self.MANAGER + self.MANAGER[:6]))} 4",
@@ -1376,9 +1395,10 @@ class Lines(Case):
                 "byte 00 4 0 2", "read 00 4 0 2 00", "exact 00 4 0 2 00",
                 "write 00 0 2 00", "category 00 4 10", "inside 00 4 10",
                 "alias 00 4",
-                "size 00 4", "setalias 00 1", "identity 00 4", "mailbox 00 4",
+                "size 00 4", "setalias 00 1", "identity 00 4",
+                f"mailbox {'00' * 58} 4", f"hasmail {'00' * 58} 4",
                 "general 00 4", "physport 00 4", "physaddr 00 4",
-                "sms 00 4", "fmmus 00 4", "fmmuex 00 4",
+                "sms 00 4", "usages 00 4", "fmmus 00 4", "fmmuex 00 4",
                 "pdos 00 4 50", "pdi 00 4", "bootmail 00 4", "version 00 4",
                 "checksum 00 4", "clocks 00 4",
                 "string 00 4 1 00", "name 00 4 00",

@@ -89,6 +89,12 @@ pub fn mailbox(words: Words) -> Reply {
     }))
 }
 
+pub fn has_mailbox(words: Words) -> Reply {
+    let sii = only_image(words)?;
+    let answer = ask_async(|| sii.mailbox_config())?;
+    Ok(said(answer, |mailbox| vec![mailbox.has_mailbox().into()]))
+}
+
 pub fn general(words: Words) -> Reply {
     let sii = only_image(words)?;
     let answer = ask_async(|| sii.general())?;
@@ -133,6 +139,12 @@ pub fn sync_managers(words: Words) -> Reply {
             ]
         })
     }))
+}
+
+pub fn usages(words: Words) -> Reply {
+    let sii = only_image(words)?;
+    let answer = ask_async(|| sii.sync_managers())?;
+    Ok(said(answer, |managers| list(&managers, |manager| [manager.usage_type() as u32])))
 }
 
 pub fn fmmus(words: Words) -> Reply {

@@ -5,10 +5,10 @@ from . import images
 from .images import NAMED, category, image
 from .tools import CHUNKS, around, number, ramp
 
-READ_OUTS = ("alias", "size", "identity", "mailbox", "general", "physport",
-             "physaddr", "sms", "fmmus", "fmmuex")
+READ_OUTS = ("alias", "size", "identity", "mailbox", "hasmail", "general",
+             "physport", "physaddr", "sms", "usages", "fmmus", "fmmuex")
 HOLDS = {"general": 30, "physport": 30, "physaddr": 30, "fmmus": 40,
-         "sms": 41, "fmmuex": 42}
+         "sms": 41, "usages": 41, "fmmuex": 42}
 
 
 def small():
@@ -45,8 +45,12 @@ def largest():
 def heads():
     """Images that end within what is read, and every flag."""
     for length in range(0, 131):
-        for kind in ("alias", "size", "identity", "mailbox"):
+        for kind in ("alias", "size", "identity", "mailbox", "hasmail"):
             yield line(kind, ramp(length), CHUNKS[length % 2])
+    for sizes in range(8):
+        data = bytearray(58)
+        data[50], data[55], data[56] = sizes & 1, sizes & 2, sizes & 4
+        yield line("hasmail", data, 4)
     for protocols in range(256):
         data = bytearray(ramp(128))
         data[56] = protocols
@@ -122,6 +126,7 @@ def lists():
             record = bytearray(8)
             record[place] = value
             yield line("sms", image(category(41, record)), 8)
+            yield line("usages", image(category(41, record)), 4)
         yield line("fmmus", image(category(40, bytes([value, 1]))), 4)
     yield from limits()
     yield from pdos()

@@ -17,9 +17,12 @@ use lists::SyncManager;
 use lists::SyncManagers;
 use lists::pdo_row;
 use lists::sync_manager_row;
+use lists::usage_type;
 use wire::lesser;
 
 const SMS: u64 = 0x736d7320_20202020;
+
+const USAGES: u64 = 0x75736167_65732020;
 
 const FMMUS: u64 = 0x666d6d75_73202020;
 
@@ -31,6 +34,7 @@ const PDOS: u64 = 0x70646f73_20202020;
 pub(crate) fn shape(name: u64) -> u64 {
     match name {
         SMS => 0xbc,
+        USAGES => 0xbc,
         FMMUS => 0xbc,
         FMMUEX => 0xbc,
         PDOS => 0xbc2,
@@ -41,6 +45,7 @@ pub(crate) fn shape(name: u64) -> u64 {
 pub(crate) fn answer(name: u64, nums: &[u64], image: &[u8], row: &mut [u64]) -> Reply {
     match name {
         SMS => of_sms(row, lists::sync_managers(image, chunk(nums, 1))),
+        USAGES => of_usages(row, lists::sync_managers(image, chunk(nums, 1))),
         FMMUS => of_fmmus(row, lists::fmmus(image, chunk(nums, 1))),
         FMMUEX => of_fmmus(row, lists::fmmu_mappings(image, chunk(nums, 1))),
         PDOS => pdos(row, image, chunk(nums, 1), at(nums, 2)),
@@ -78,6 +83,26 @@ fn of_sms(row: &mut [u64], r: SyncManagers) -> Reply {
     let sms = r.items;
     let k = put(row, 0, n as u64);
     let end = put_sms(row, k, sms, n);
+    listed(row, answer, end)
+}
+
+fn put_usages(row: &mut [u64], k: usize, sms: [SyncManager; 8], n: usize) -> usize {
+    let count = lesser(n, 8);
+    let mut j = k;
+    let mut i = 0;
+    while i < count {
+        j = put(row, j, wide8(usage_type(sms[i])));
+        i += 1;
+    }
+    j
+}
+
+fn of_usages(row: &mut [u64], r: SyncManagers) -> Reply {
+    let answer = r.answer;
+    let n = r.count;
+    let sms = r.items;
+    let k = put(row, 0, n as u64);
+    let end = put_usages(row, k, sms, n);
     listed(row, answer, end)
 }
 

@@ -18,10 +18,14 @@ use sii::AliasSet;
 use sii::GeneralAnswer;
 use sii::IdentityAnswer;
 use sii::MailboxAnswer;
+use sii::PortsAnswer;
 use sii::SizeAnswer;
+use sii::WordAnswer;
 use sii::general_row;
+use sii::has_mailbox;
 use sii::identity_row;
 use sii::mailbox_row;
+use sii::ports_row;
 use wire::flag;
 
 const CATEGORY: u64 = 0x63617465_676f7279;
@@ -38,6 +42,12 @@ const IDENTITY: u64 = 0x6964656e_74697479;
 
 const MAILBOX: u64 = 0x6d61696c_626f7820;
 
+const HASMAIL: u64 = 0x6861736d_61696c20;
+
+const PHYSPORT: u64 = 0x70687973_706f7274;
+
+const PHYSADDR: u64 = 0x70687973_61646472;
+
 const GENERAL: u64 = 0x67656e65_72616c20;
 
 // The request's shape; 0 of a name that is not here.
@@ -50,7 +60,10 @@ pub(crate) fn shape(name: u64) -> u64 {
         SETALIAS => 0xb2,
         IDENTITY => 0xbc,
         MAILBOX => 0xbc,
+        HASMAIL => 0xbc,
         GENERAL => 0xbc,
+        PHYSPORT => 0xbc,
+        PHYSADDR => 0xbc,
         _ => 0,
     }
 }
@@ -70,6 +83,9 @@ pub(crate) fn answer(name: u64, nums: &[u64], image: &mut [u8], row: &mut [u64])
         SETALIAS => set_alias(image, word(nums, 1), row),
         IDENTITY => of_identity(row, sii::identity(image, chunk(nums, 1))),
         MAILBOX => of_mailbox(row, sii::mailbox_config(image, chunk(nums, 1))),
+        HASMAIL => of_has_mailbox(row, sii::mailbox_config(image, chunk(nums, 1))),
+        PHYSPORT => of_ports(row, sii::physical_ports(image, chunk(nums, 1))),
+        PHYSADDR => of_word(row, sii::physical_memory_address(image, chunk(nums, 1))),
         GENERAL => of_general(row, sii::general(image, chunk(nums, 1))),
         _ => unreadable(row),
     }
@@ -137,6 +153,30 @@ fn of_mailbox(row: &mut [u64], r: MailboxAnswer) -> Reply {
             gives(row, &xs)
         }
         MailboxAnswer::No(x) => refuses(row, x),
+    }
+}
+
+fn of_has_mailbox(row: &mut [u64], r: MailboxAnswer) -> Reply {
+    match r {
+        MailboxAnswer::Is(m) => gives_one(row, flag(has_mailbox(m))),
+        MailboxAnswer::No(x) => refuses(row, x),
+    }
+}
+
+fn of_ports(row: &mut [u64], r: PortsAnswer) -> Reply {
+    match r {
+        PortsAnswer::Is(p) => {
+            let xs = ports_row(p);
+            gives(row, &xs)
+        }
+        PortsAnswer::No(x) => refuses(row, x),
+    }
+}
+
+fn of_word(row: &mut [u64], r: WordAnswer) -> Reply {
+    match r {
+        WordAnswer::Word(n) => gives_one(row, n as u64),
+        WordAnswer::No(x) => refuses(row, x),
     }
 }
 

@@ -17,7 +17,7 @@ use Rattle.eeprom.specs.declared.Chunk.{Chunk}
 use Rattle.eeprom.specs.declared.Chunk.the-variants as chunk
 use Rattle.eeprom.proofs.Unique.{range-unique, byte-unique, reading-unique, exact-unique, writing-unique}
 use Rattle.category.proofs.Unique.{found-unique as category-unique, inside-unique}
-use Rattle.sii.proofs.Unique.{alias-unique, set-unique, identity-unique, mailbox-unique, size-unique, general-unique, found-unique}
+use Rattle.sii.proofs.Unique.{alias-unique, set-unique, identity-unique, mailbox-unique, size-unique, general-unique, found-unique, ports-unique, word-unique}
 use Rattle.setup.proofs.Unique.{pdi-unique, bootstrap-unique, version-unique, checksum-unique}
 use Rattle.lists.proofs.Unique.{sms-unique, fmmus-unique, pdos-unique}
 use Rattle.clock.proofs.Unique.{clocks-unique}
@@ -82,11 +82,15 @@ module _ {M : Type 1} (𝓤 : URA M) (H : Heap 𝓤) (A : Atoms 𝓤) (mem : Mem
     «sii::set_station_alias» = λ κs a g r s ws vs. two 𝓤 (λ p q p′ q′. (set-unique r s _ p q, ap (λ l. (l, (tt, tt))) (same p′ q′)));
     «sii::identity» = λ κs a m g h r s ws vs. one 𝓤 (λ p q. (identity-unique r s _ p q, refl));
     «sii::mailbox_config» = λ κs a m g h r s ws vs. one 𝓤 (λ p q. (mailbox-unique r s _ p q, refl));
+    «sii::has_mailbox» = λ κs a g r s ws vs. one 𝓤 (λ p q. (same p q, refl));
     «sii::size» = λ κs a m g h r s ws vs. one 𝓤 (λ p q. (size-unique r s _ p q, refl));
     «sii::general» = λ κs a m g h r s ws vs. one 𝓤 (λ p q. (general-unique r s _ p q, refl));
     «sii::find_general» = λ κs a m g h r s ws vs. one 𝓤 (λ p q. (found-unique r s _ p q, refl));
+    «sii::physical_ports» = λ κs a m g h r s ws vs. one 𝓤 (λ p q. (ports-unique r s _ p q, refl));
+    «sii::physical_memory_address» = λ κs a m g h r s ws vs. one 𝓤 (λ p q. (word-unique r s _ p q, refl));
     «sii::identity_row» = λ κs a g r s ws vs. one 𝓤 (λ p q. (same p q, refl));
     «sii::mailbox_row» = λ κs a g r s ws vs. one 𝓤 (λ p q. (same p q, refl));
+    «sii::ports_row» = λ κs a g r s ws vs. one 𝓤 (λ p q. (same p q, refl));
     «sii::general_row» = λ κs a g r s ws vs. one 𝓤 (λ p q. (same p q, refl));
     -- ---- setup
     «setup::pdi_control» = λ κs a m g h r s ws vs. one 𝓤 (λ p q. (pdi-unique r s _ p q, refl));

@@ -118,11 +118,15 @@ module _ {M : Type 1} (𝓤 : URA M) (H : Heap 𝓤) (A : Atoms 𝓤) (mem : Mem
     pub «sii::set_station_alias» : Whole of-sii.set_station_alias.ended of-sii.set_station_alias.clauses
     pub «sii::identity» : Wide of-sii.identity.ended of-sii.identity.clauses second alike
     pub «sii::mailbox_config» : Wide of-sii.mailbox_config.ended of-sii.mailbox_config.clauses second alike
+    pub «sii::has_mailbox» : Whole of-sii.has_mailbox.ended of-sii.has_mailbox.clauses
     pub «sii::size» : Wide of-sii.size.ended of-sii.size.clauses second alike
     pub «sii::general» : Wide of-sii.general.ended of-sii.general.clauses second alike
     pub «sii::find_general» : Wide of-sii.find_general.ended of-sii.find_general.clauses second alike
+    pub «sii::physical_ports» : Wide of-sii.physical_ports.ended of-sii.physical_ports.clauses second alike
+    pub «sii::physical_memory_address» : Wide of-sii.physical_memory_address.ended of-sii.physical_memory_address.clauses second alike
     pub «sii::identity_row» : Whole of-sii.identity_row.ended of-sii.identity_row.clauses
     pub «sii::mailbox_row» : Whole of-sii.mailbox_row.ended of-sii.mailbox_row.clauses
+    pub «sii::ports_row» : Whole of-sii.ports_row.ended of-sii.ports_row.clauses
     pub «sii::general_row» : Whole of-sii.general_row.ended of-sii.general_row.clauses
     -- ---- setup
     pub «setup::pdi_control» : Wide of-setup.pdi_control.ended of-setup.pdi_control.clauses second alike
