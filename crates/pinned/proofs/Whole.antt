@@ -15,6 +15,8 @@ use Rattle.wire.specs.Bytes.{span, filled}
 use Rattle.eeprom.specs.Image.{widthOf, chunkOf}
 use Rattle.eeprom.specs.declared.Chunk.{Chunk}
 use Rattle.eeprom.specs.declared.Chunk.the-variants as chunk
+use Rattle.eeprom.specs.declared.ExactRead.{ExactRead}
+use Rattle.eeprom.specs.declared.WordsWritten.{WordsWritten}
 use Rattle.eeprom.proofs.Unique.{range-unique, byte-unique, reading-unique, exact-unique, writing-unique}
 use Rattle.category.proofs.Unique.{found-unique as category-unique, inside-unique}
 use Rattle.sii.proofs.Unique.{alias-unique, set-unique, identity-unique, mailbox-unique, size-unique, general-unique, found-unique, ports-unique, word-unique}
@@ -22,8 +24,7 @@ use Rattle.setup.proofs.Unique.{pdi-unique, bootstrap-unique, version-unique, c
 use Rattle.lists.proofs.Unique.{sms-unique, fmmus-unique, pdos-unique}
 use Rattle.clock.proofs.Unique.{clocks-unique}
 use Rattle.strings.proofs.Unique.{string-unique}
-use Rattle.ports.specs.declared.Assigned.{Assigned}
-use Rattle.ports.proofs.Unique.{port-unique, time-unique, topology-unique, text-unique}
+use Rattle.ports.proofs.Unique.{port-unique, assigned-unique, time-unique, topology-unique, text-unique}
 use Rattle.pdu.proofs.Unique.{frame-header-unique}
 use Rattle.created_frame.proofs.Unique.{opened-unique, push-unique, rest-push-unique, can-unique}
 use Rattle.frame_reader.proofs.Unique.{read-frame-unique}
@@ -72,8 +73,8 @@ module _ {M : Type 1} (𝓤 : URA M) (H : Heap 𝓤) (A : Atoms 𝓤) (mem : Mem
     «eeprom::Range::skip_ahead_bytes» = λ κs a g r s ws vs. one 𝓤 (λ p q. (range-unique r s _ p q, refl));
     «eeprom::Range::read_byte» = λ κs a m g h r s ws vs. one 𝓤 (λ p q. (byte-unique r s _ p q, refl));
     «eeprom::Range::read» = λ κs a m g h r s ws vs. two 𝓤 (λ p q p′ q′. (reading-unique r s _ p q, ap (λ l. (tt, (tt, (tt, (l, tt))))) (same p′ q′)));
-    «eeprom::Range::read_exact» = λ κs a m g h r s ws vs. two 𝓤 (λ p q p′ q′. (exact-unique r s _ p q, ap (λ l. (tt, (tt, (tt, (l, tt))))) (same p′ q′)));
-    «eeprom::Range::write» = λ κs a g r s ws vs. two 𝓤 (λ p q p′ q′. (writing-unique r s _ p q, ap (λ l. (tt, (l, (tt, tt)))) (same p′ q′)));
+    «eeprom::Range::read_exact» = λ κs a m g h r s ws vs. three 𝓤 (λ p q p′ q′ p″ q″. (ap₂ {C = ExactRead} (λ x y. record { answer = x; range = y }) (exact-unique (r .answer) (s .answer) _ p q) (same p′ q′), ap (λ l. (tt, (tt, (tt, (l, tt))))) (same p″ q″)));
+    «eeprom::Range::write» = λ κs a g r s ws vs. three 𝓤 (λ p q p′ q′ p″ q″. (ap₂ {C = WordsWritten} (λ x y. record { answer = x; range = y }) (writing-unique (r .answer) (s .answer) _ p q) (same p′ q′), ap (λ l. (tt, (l, (tt, tt)))) (same p″ q″)));
     -- ---- category
     «category::category» = λ κs a m g h r s ws vs. one 𝓤 (λ p q. (category-unique r s _ p q, refl));
     «category::category_inside» = λ κs a m g h r s ws vs. one 𝓤 (λ p q. (inside-unique r s _ p q, refl));
@@ -106,6 +107,7 @@ module _ {M : Type 1} (𝓤 : URA M) (H : Heap 𝓤) (A : Atoms 𝓤) (mem : Mem
     «lists::fmmu_mappings» = λ κs a m g h r s ws vs. one 𝓤 (λ p q. (fmmus-unique r s _ p q, refl));
     «lists::maindevice_read_pdos» = λ κs a m g h r s ws vs. one 𝓤 (λ p q. (pdos-unique r s _ p q, refl));
     «lists::maindevice_write_pdos» = λ κs a m g h r s ws vs. one 𝓤 (λ p q. (pdos-unique r s _ p q, refl));
+    «lists::usage_type» = λ κs a g r s ws vs. one 𝓤 (λ p q. (same p q, refl));
     «lists::sync_manager_row» = λ κs a g r s ws vs. one 𝓤 (λ p q. (same p q, refl));
     «lists::pdo_row» = λ κs a g r s ws vs. one 𝓤 (λ p q. (same p q, refl));
     -- ---- clock
@@ -124,7 +126,7 @@ module _ {M : Type 1} (𝓤 : URA M) (H : Heap 𝓤) (A : Atoms 𝓤) (mem : Mem
     «ports::Ports::total_propagation_time» = λ κs a g r s ws vs. one 𝓤 (λ p q. (time-unique r s _ p q, refl));
     «ports::Ports::propagation_time_to» = λ κs a g r s ws vs. one 𝓤 (λ p q. (time-unique r s _ p q, refl));
     «ports::Ports::intermediate_propagation_time_to» = λ κs a g r s ws vs. one 𝓤 (λ p q. (time-unique r s _ p q, refl));
-    «ports::Ports::assign_next_downstream_port» = λ κs a g r s ws vs. one 𝓤 (λ p q. (ap₂ {C = Assigned} (λ x y. record { answer = x; ports = y }) (port-unique (r .answer) (s .answer) _ (p .0) (q .0)) (same (p .1) (q .1)), refl));
+    «ports::Ports::assign_next_downstream_port» = λ κs a g r s ws vs. one 𝓤 (λ p q. (assigned-unique _ _ r s p q, refl));
     «ports::Ports::port_assigned_to» = λ κs a g r s ws vs. one 𝓤 (λ p q. (port-unique r s _ p q, refl));
     «ports::Ports::display» = λ κs a g r s ws vs. two 𝓤 (λ p q p′ q′. (text-unique r s _ p q, ap (λ l. (tt, (l, tt))) (same p′ q′)));
     -- ---- pdu
@@ -164,7 +166,7 @@ module _ {M : Type 1} (𝓤 : URA M) (H : Heap 𝓤) (A : Atoms 𝓤) (mem : Mem
     «held::write_in» = λ κs a g r s ws vs. one 𝓤 (λ p q. (ap₂ {C = CountStep} (λ x y. record { answer = x; «byte_pos» = y }) (counted-unique (r .answer) (s .answer) _ (p .0 .0) (q .0 .0)) (same (p .0 .1) (q .0 .1)), ap (λ l. (l, (tt, (tt, (tt, tt))))) (same (p .1) (q .1))));
     «held::set_receive_times» = λ κs a g r s ws vs. one 𝓤 (λ p q. (refl, ap (λ l. (l, (tt, (tt, (tt, (tt, tt)))))) (same p q)));
     «held::assign_next_downstream_port» = λ κs a g r s ws vs. one 𝓤 (λ p q. (port-unique r s _ (p .0) (q .0), ap (λ l. (l, (tt, tt))) (same (p .1) (q .1))));
-    «held::after_assign» = λ κs a g r s ws vs. one 𝓤 (λ p q. (ap₂ {C = Assigned} (λ x y. record { answer = x; ports = y }) (port-unique (r .answer) (s .answer) _ (p .0) (q .0)) (same (p .1) (q .1)), refl));
+    «held::after_assign» = λ κs a g r s ws vs. one 𝓤 (λ p q. (assigned-unique _ _ r s p q, refl));
     -- ---- export
     «export::read_out::morel_crc» = λ κs a g r s ws vs. one 𝓤 (λ p q. (same p q, refl));
     «export::read_out::morel_station_alias» = λ κs a g r s ws vs. two 𝓤 (λ p q p′ q′. (same p q, ap (λ l. (tt, (l, tt))) (same p′ q′)));

@@ -142,6 +142,7 @@ module _ {M : Type 1} (𝓤 : URA M) (H : Heap 𝓤) (A : Atoms 𝓤) (mem : Mem
     pub «lists::fmmu_mappings» : Wide of-lists.fmmu_mappings.ended of-lists.fmmu_mappings.clauses second alike
     pub «lists::maindevice_read_pdos» : Wide of-lists.maindevice_read_pdos.ended of-lists.maindevice_read_pdos.clauses second alike
     pub «lists::maindevice_write_pdos» : Wide of-lists.maindevice_write_pdos.ended of-lists.maindevice_write_pdos.clauses second alike
+    pub «lists::usage_type» : Whole of-lists.usage_type.ended of-lists.usage_type.clauses
     pub «lists::sync_manager_row» : Whole of-lists.sync_manager_row.ended of-lists.sync_manager_row.clauses
     pub «lists::pdo_row» : Whole of-lists.pdo_row.ended of-lists.pdo_row.clauses
     -- ---- clock
