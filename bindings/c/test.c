@@ -1,4 +1,4 @@
-/* Each export with good and bad input, held against document 01's bench cases and numbers worked out by hand from its words; then, with the
+/* Each export with good and bad input, held against the bench cases (docs/RULES.md) and numbers worked out by hand from the rules; then, with the
  * names of two files, against recorded requests and the answers that the Rust originals or the independent program gave (docs/DESK.md). */
 #include "morelbarrel.h"
 

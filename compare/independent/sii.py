@@ -1,6 +1,6 @@
 """What is read out: alias, identity, mailbox, size, General, the lists.
 
-The places of the fields follow ETG1000.6 and ETG2010, so far as document 01
+The places of the fields follow ETG1000.6 and ETG2010, so far as the rules
 and docs/DECISIONS.md don't give them.
 """
 

@@ -72,7 +72,7 @@ class Case(unittest.TestCase):
 
 
 class Bench(Case):
-    """Document 01, 'Measured on the bench'."""
+    """RULES, bench."""
 
     def test_crc(self):
         self.says("crc " + "00" * 14, "gives 48")

@@ -4,7 +4,7 @@ from ..request import line
 from .tools import U8, U32, asked, around, near, number, ramp
 
 OVERHEAD = 12
-# The Rust has these, of the 0 to 14 that document 01 admits.
+# The Rust has these, of the 0 to 14 that are admitted.
 COMMANDS = (1, 2, 4, 5, 7, 8, 10, 11, 12, 14)
 
 

@@ -1,4 +1,4 @@
--- What each answer says on paper, in document 01's numbers and values. Definitions only.
+-- What each answer says on paper, in numbers and values (RULES, refusals). Definitions only.
 use mathlib.Core.List.{[], _∷_}
 use Rattle.refusal.specs.Said.{Said, gives, absent, saidOf}
 use Rattle.category.specs.Category.{Stepped, done, next}

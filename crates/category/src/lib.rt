@@ -1,5 +1,5 @@
 // Finding a category of the SII in a lent EEPROM image: `category` of ethercrab's subdevice/eeprom.rs.
-// Document 01, 'Finding a category', decides; specs/Category.antt has its rules in its order.
+// RULES, category, decides; specs/Category.antt has its rules in its order.
 use eeprom::Chunk;
 use eeprom::Range;
 use eeprom::RangeAnswer;

@@ -1,5 +1,5 @@
 // The distributed clock's modes that the SII lists, its category DC, which ethercrab names and does not read.
-// Follows ETG2010, category DC, and the lists of document 01, 'What is read out'. specs/Layout.antt says where each field lies.
+// Follows ETG2010, category DC, and RULES, lists. specs/Layout.antt says where each field lies.
 use category::DISTRIBUTED_CLOCK;
 use category::Found;
 use category::category;

@@ -1,4 +1,4 @@
--- Each answer on paper: document 01's number and values for each case. Definitions only.
+-- Each answer on paper: number and values for each case (RULES, refusals). Definitions only.
 use Prim.Native.Nat.{ℕ}
 use mathlib.Core.List.{List, [], _∷_}
 use Rattle.refusal.specs.Said.{Said, gives, absent, saidOf, pick}

@@ -1,4 +1,4 @@
--- What a push answers, and what it leaves: the area's bytes, the builder's state, the index counter (document 01, 'Frames'). Definitions only.
+-- What a push answers, and what it leaves: the area's bytes, the builder's state, the index counter (RULES, frames). Definitions only.
 use Prim.Native.Nat.{ℕ, _+_, _-_, _*_, _%_, _≤_, _<_, min, max}
 use mathlib.Core.List.{List, [], _∷_, _++_}
 use mathlib.Core.Bool.{Bool, _&&_}

@@ -1,4 +1,4 @@
-// The frame builder: PDUs pushed one after the other into a lent area. It follows created_frame.rs of the Rust and document 01, 'Frames';
+// The frame builder: PDUs pushed one after the other into a lent area. It follows created_frame.rs of the Rust and RULES, frames;
 // headers are packed by `pdu`. The state of an area goes in and comes back by value, and so does the index counter.
 use pdu::AREA_MOST;
 use pdu::HEADER_BYTES;

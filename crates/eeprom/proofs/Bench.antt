@@ -1,4 +1,4 @@
--- Worked cases of a range, by computing: the edges that document 01 names, each as an equation of a definition.
+-- Worked cases of a range, by computing: the edges that RULES, range, names, each as an equation of a definition.
 use mathlib.Core.Path.{_≡_, refl}
 use mathlib.Core.List.{List, [], _∷_}
 use Prim.Native.Nat.{ℕ}

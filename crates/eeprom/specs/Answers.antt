@@ -1,4 +1,4 @@
--- What each answer says, in document 01's numbers and values. A range is said by its position and its end.
+-- What each answer says, in numbers and values (RULES, refusals). A range is said by its position and its end.
 use mathlib.Core.List.{[], _∷_}
 use Rattle.refusal.specs.Said.{Said, gives, saidOf}
 use Rattle.eeprom.specs.declared.RangeAnswer.{RangeAnswer}

@@ -1,4 +1,4 @@
--- The lent image and its chunks: document 01, 'The EEPROM range', first point. Definitions only.
+-- The lent image and its chunks: RULES, range. Definitions only.
 use Prim.Native.Nat.{ℕ, _*_, _%_}
 use mathlib.Core.List.{List}
 use mathlib.Core.Bool.{Bool, _&&_}

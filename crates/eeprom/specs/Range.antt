@@ -1,4 +1,4 @@
--- The rules of a range: document 01, 'The EEPROM range' and 'When the desk says no'. Definitions only, in plain numbers.
+-- The rules of a range: RULES, range and refusals. Definitions only, in plain numbers.
 -- A range is its position and its end, both counted in bytes from the image's start.
 use Prim.Native.Nat.{ℕ, _+_, _-_, _*_, _/_, _%_, min, max}
 use mathlib.Core.List.{List, [], _∷_, _++_}

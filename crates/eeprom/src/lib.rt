@@ -1,5 +1,5 @@
 // The lent EEPROM image, read in chunks, and a range of it: a plain record beside the image.
-// Follows src/eeprom/mod.rs (`EepromDataProvider`, `EepromRange`) and document 01, 'The EEPROM range'.
+// Follows src/eeprom/mod.rs (`EepromDataProvider`, `EepromRange`) and RULES, range.
 use refusal::Refusal;
 use wire::byte_at;
 use wire::lay;

@@ -1,4 +1,4 @@
-// The frame reader (document 01, 'Frames'): the PDUs of any bytes that are a frame, else refusal 12. The Rust has none.
+// The frame reader (RULES, reader): the PDUs of any bytes that are a frame, else refusal 12. The Rust has none.
 // Two steps, header and body, each calling the other on what is left, find where the PDUs start; a loop then reads their fields.
 use pdu::ADDRESS_AT;
 use pdu::CIRCULATED_BIT;

@@ -1,4 +1,4 @@
--- A range with its image inside it, over the rules of `eeprom`: document 01, 'The EEPROM range' and 'What must change shape'. Definitions only.
+-- A range with its image inside it, over the rules of `eeprom`: RULES, range and forms. Definitions only.
 -- What the core says of a range made, a skip, a byte and a read ends in the range after it, as position and end: here the answer is said alone, and the range is where it says.
 -- Of an exact read and a write the core says the answer alone, and has the range beside it.
 use Prim.Native.Nat.{ℕ, _-_}

@@ -1,5 +1,5 @@
 // The forms that lend, each thin over its by-value core: `Ports` changed in place, and a range that keeps its image inside it.
-// Document 01, 'Forms for each place', the last two lines, and 'What must change shape'. No call here decides anything: what it answers and leaves is the core's.
+// RULES, forms. No call here decides anything: what it answers and leaves is the core's.
 use eeprom::Chunk;
 use eeprom::Pos;
 use ports::Assigned;

@@ -13,7 +13,7 @@ use Rattle.lists.specs.Records.{Item, one, none, bad, Listed, records, i
 use Rattle.lists.specs.declared.FmmuKind.{FmmuKind}
 use Rattle.lists.specs.declared.FmmuKind.the-variants as kind
 
--- the most FMMUs (ETG1000.4 6.6.1): of usages, the bytes that are looked at; of extended FMMUs, document 01's limit
+-- the most FMMUs (ETG1000.4 6.6.1): of usages, the bytes that are looked at; of extended FMMUs, the most that are listed (RULES, limits)
 abbrev pub fmmuMost : ℕ
 fmmuMost = 16
 

@@ -9,7 +9,7 @@ use Rattle.lists.specs.Layout.{pdoBytes, pdoIndex, nEntry, pdoSyncM, ent
 use Rattle.lists.specs.Records.{Item, one, none, bad, Listed, records, inCategory}
 use Rattle.lists.specs.declared.Pdo.{Pdo}
 
--- document 01's limit
+-- the most that are listed (RULES, limits); one more is 6
 abbrev pub pdoMost : ℕ
 pdoMost = 64
 

@@ -12,7 +12,7 @@ use Rattle.lists.specs.Layout.{smBytes, physicalStartAddress, smLength, 
 use Rattle.lists.specs.Records.{Item, one, none, bad, Listed, records, inCategory}
 use Rattle.lists.specs.declared.SyncManager.{SyncManager}
 
--- document 01's limit
+-- the most that are listed (RULES, limits); one more is 6
 abbrev pub smMost : ℕ
 smMost = 8
 

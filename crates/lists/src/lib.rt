@@ -1,5 +1,5 @@
 // The lists of the SII: sync managers, FMMUs and PDOs, the records of a category one behind the other, in a counted array.
-// Follows subdevice/eeprom.rs and eeprom/types.rs; document 01, 'What is read out'. specs/Layout.antt says where each field lies.
+// Follows subdevice/eeprom.rs and eeprom/types.rs; RULES, lists. specs/Layout.antt says where each field lies.
 mod layout;
 
 use crate::layout::BIT_LENGTH;

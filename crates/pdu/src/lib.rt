@@ -1,5 +1,5 @@
 // What a PDU and a frame are on the wire, and the packing of their headers: pdu_header.rs, pdu_flags.rs and frame_header.rs of the Rust.
-// Document 01, 'Frames'. The builder and the reader share the definitions in specs/ and the record of a PDU's fields.
+// RULES, frames. The builder and the reader share the definitions in specs/ and the record of a PDU's fields.
 use refusal::Refusal;
 use wire::flag;
 ghost use mathlib.Core.Path.{_≡_};

@@ -1,4 +1,4 @@
--- Document 01's bench cases on ports that are not marked P (the crate `bench` has those), and what DECISIONS says of a record that no call made: each is computed.
+-- The bench cases on ports that are not marked P (RULES, bench; the crate `bench` has the others), and what DECISIONS says of a record that no call made: each is computed.
 use Prim.Native.Nat.{ℕ}
 use native.Mathlib.Nat.{le-refl}
 use mathlib.Core.Path.{_≡_, refl, ap, _∙_}

@@ -1,4 +1,4 @@
--- Delays of a device (document 01, 'Ports and delays'), from the receive times of its active ports. Definitions only.
+-- Delays of a device (RULES, ports), from the receive times of its active ports. Definitions only.
 use Prim.Native.Nat.{ℕ, zero, suc, _+_, _-_, min, max}
 use mathlib.Core.Bool.{Bool, _&&_}
 use mathlib.Core.List.{List, [], _∷_, map}

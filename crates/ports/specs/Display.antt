@@ -1,4 +1,4 @@
--- The text of a device's ports: document 01 has `ports [ open closed open closed ]` for active ports 0 and 1. Definitions only.
+-- The text of a device's ports (RULES, ports): `ports [ open closed open closed ]` for active ports 0 and 1. Definitions only.
 use Prim.Native.Nat.{ℕ, zero, suc}
 use mathlib.Core.Bool.{Bool}
 use mathlib.Core.List.{List, [], _∷_, _++_}

@@ -1,5 +1,5 @@
 // A device's ports: which are active, when each saw the frame, which device hangs on each; and the delays between them.
-// Follows ethercrab's src/subdevice/ports.rs, by value, in the words of document 01, 'Ports and delays'.
+// Follows ethercrab's src/subdevice/ports.rs, by value; RULES, ports.
 // Places 0, 1, 2, 3 hold ports 0, 3, 1, 2, the order in which a frame passes them. The place decides, whatever `number` a record holds.
 ghost use mathlib.Core.Path.{_≡_};
 ghost use Rattle.ports.specs.Ports.{fresh, timesSet};

@@ -1,4 +1,4 @@
--- What is read out of the SII's fixed area, and setting the alias: document 01, 'What is read out', first two points. Definitions only.
+-- What is read out of the SII's fixed area, and setting the alias: RULES, read-out. Definitions only.
 use Prim.Native.Nat.{ℕ, _+_, _*_}
 use mathlib.Core.List.{List, [], _∷_}
 use mathlib.Core.Bool.{Bool, true, false}

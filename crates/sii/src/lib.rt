@@ -1,5 +1,5 @@
 // What is read out of the SII's fixed area and of its category General, and setting the station alias.
-// Follows subdevice/eeprom.rs and eeprom/types.rs; document 01, 'What is read out'. specs/Layout.antt says where each field lies.
+// Follows subdevice/eeprom.rs and eeprom/types.rs; RULES, read-out. specs/Layout.antt says where each field lies.
 pub mod layout;
 
 use crate::layout::ADDRESS_OF_TYPES;

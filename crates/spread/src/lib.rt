@@ -1,4 +1,4 @@
-// A process image spread over a row of areas of one size: one logical PDU for each area that has room (document 01, 'Frames', second paragraph).
+// A process image spread over a row of areas of one size: one logical PDU for each area that has room (RULES, spreading).
 // The Rust leaves this to its callers. The rule is specs/Row.antt, and the contract `Promised` says that the call follows it; what that comes to is one statement, specs/Demand.antt.
 use created_frame::Builder;
 use created_frame::PDU_OVERHEAD_BYTES;

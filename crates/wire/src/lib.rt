@@ -1,5 +1,5 @@
 // Bytes: total reads of 8, 16 and 32 bits, low byte first, and the one loop that lays bytes over a slice.
-// What stands past a slice's end reads as 0xFF, as document 01 has it of the EEPROM image.
+// What stands past a slice's end reads as 0xFF, as it does of the EEPROM image (RULES, range).
 ghost use mathlib.Core.Path.{_≡_};
 ghost use Prim.Native.Nat.{ℕ, _+_, _*_, _≤_, _<_, min};
 ghost use lib.ListN.{length, take, replicate};
