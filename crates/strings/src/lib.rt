@@ -17,10 +17,12 @@ use sii::GeneralFound;
 use sii::find_general;
 use sii::general;
 ghost use mathlib.Core.Path.{_≡_};
-ghost use mathlib.Core.List.{[], _∷_};
-ghost use Prim.Native.Nat.{_+_, _-_, _≤_, _<_};
+ghost use mathlib.Core.List.{List, [], _∷_};
+ghost use mathlib.Core.Bool.{true};
+ghost use Prim.Native.Nat.{ℕ, _+_, _-_, _≤_, _<_};
 ghost use lib.ListN.{length};
 ghost use Rattle.wire.specs.Bytes.{span, overlay};
+ghost use Rattle.eeprom.specs.Image.{fine};
 ghost use Rattle.eeprom.specs.Answers.{saidRange};
 ghost use Rattle.strings.specs.Strings.{stringPast, passedOne, passed, fitted, stringHere, stringBehind, stringIn, soughtAt, ascii, shown, textSaid, fits, stringSaid, lengthSaid, roomAfter};
 ghost use Rattle.strings.specs.Names.{nameSaid, descriptionSaid};
@@ -190,9 +192,9 @@ fn here(image: &[u8], chunk: Chunk, g: Range, room: u16) -> Place
     }
 }
 
-// n bytes from pos on, for a room.
+// n bytes from pos on, for a room: an exact read of an image and a range within their bounds.
 fn fit(room: u16, n: u16, pos: Pos, end: Pos) -> Place
-    ensures { λ r. ⌜ saidPlace r ≡ fitted room n pos end ⌝ }
+    ensures { λ r. ⌜ ((image : List ℕ) → fine image end ≡ true → saidPlace r ≡ fitted image room n pos end) ⌝ }
 {
     if room < n {
         return Place::No(Refusal::StringTooLong { room, stored: n });
