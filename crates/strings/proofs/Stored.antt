@@ -173,7 +173,7 @@ module _ (image : List ℕ) (pos end : ℕ) (c : categorySaid image strings ≡ 
   unfolding on2
   sought-in i k =
       let u : i + 1 - 1 ≡ i = omega arith in
-      sym (sought-on image (i + 1) k (λ z. omega arith)) ∙ rw (u, c)
+      sym (sought-on image (i + 1) k (λ z. omega arith)) ∙ rw c (ap (λ (s : ℕ). stringIn image s k pos end) u)
 
   module _ (ts : List (List ℕ)) (s : Stored image pos end ts) where
     -- by its index from 1, for a room that it fits
