@@ -57,9 +57,16 @@ soughtAt image index k = pick (eqb index 0) absent (on2 (categorySaid image stri
 
 -- ---- what is made of it
 
+-- the first byte that is not ASCII, and the question mark
+abbrev pub asciiEnd : ℕ
+asciiEnd = 0x80
+
+abbrev pub questionMark : ℕ
+questionMark = 63
+
 -- a byte from 0x80 becomes a question mark
 unfoldable pub ascii : ℕ → ℕ
-ascii b = pick (ltb b 128) b 63
+ascii b = pick (ltb b asciiEnd) b questionMark
 
 -- zeros are dropped
 unfoldable pub shown : List ℕ → List ℕ
