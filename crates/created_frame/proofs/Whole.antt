@@ -3,7 +3,7 @@ use mathlib.Core.Path.{_≡_, refl, _∙_}
 use mathlib.Core.Logic.{_≢_}
 use mathlib.Core.Bool.{Bool, true, false}
 use mathlib.Core.List.{List, _++_}
-use Prim.Native.Nat.{ℕ, _+_, _%_, _≤_, _<_}
+use Prim.Native.Nat.{ℕ, _+_, _≤_, _<_}
 use native.Mathlib.Omega.{arith}
 use borrow.Author.Tests.{ne-eqb, eqb-false}
 use lib.Dec.{eqb}
@@ -15,12 +15,12 @@ use Rattle.wire.proofs.Laws.{length-overlay}
 use Rattle.wire.proofs.Overlay.{overlay-before, overlay-inside, overlay-past}
 use Rattle.pdu.specs.Pdu.{headerOf}
 use Rattle.created_frame.specs.declared.Builder.{Builder}
-use Rattle.created_frame.specs.Frame.{more, marked, acceptable, withPdu, Roomy, taken, afterRest}
+use Rattle.created_frame.specs.Frame.{moreOn, more, marked, acceptable, withPdu, Roomy, taken, afterRest}
 use Rattle.created_frame.proofs.Laws.{accepted, has-room, length-marked}
 
 -- ---- more-follows
 
-marked-there : (xs : List ℕ) (count last : ℕ) → 0 < count → last + 7 < length xs → byteAt (marked xs count last) (last + 7) ≡ byteAt xs (last + 7) % 128 + 128
+marked-there : (xs : List ℕ) (count last : ℕ) → 0 < count → last + 7 < length xs → byteAt (marked xs count last) (last + 7) ≡ moreOn (byteAt xs (last + 7))
 unfolding marked more byteAt
 marked-there xs count last some lt = rw (ne-eqb count 0 (λ z. omega arith)) (getD-set-same xs (last + 7) _ 255 lt)
 
@@ -44,7 +44,7 @@ module _ (xs : List ℕ) (b : Builder) (index command address len : ℕ) (bytes 
       omega (arith, length-marked xs (b .count) (b .last), r .fits, r .given-fits)
 
   -- it is as long as it was
-  length-with : length (withPdu xs b index command address len bytes) ≡ length xs
+  pub length-with : length (withPdu xs b index command address len bytes) ≡ length xs
   length-with = length-overlay (marked xs (b .count) (b .last)) (b .used) ys inside ∙ length-marked xs (b .count) (b .last)
 
   -- its header and the given bytes are written
@@ -52,7 +52,7 @@ module _ (xs : List ℕ) (b : Builder) (index command address len : ℕ) (bytes 
   new-bytes k lt = overlay-inside (marked xs (b .count) (b .last)) (b .used) ys inside k (omega (arith, length-append (headerOf command index address len 0) bytes))
 
   -- bit 15 of the flags of the PDU before is set
-  pub flag-set : 0 < b .count → byteAt (withPdu xs b index command address len bytes) (b .last + 7) ≡ byteAt xs (b .last + 7) % 128 + 128
+  pub flag-set : 0 < b .count → byteAt (withPdu xs b index command address len bytes) (b .last + 7) ≡ moreOn (byteAt xs (b .last + 7))
   flag-set some =
       overlay-before (marked xs (b .count) (b .last)) (b .used) ys inside (b .last + 7) (omega (arith, r .header-in some))
       ∙ marked-there xs (b .count) (b .last) some (omega (arith, r .header-in some, r .fits))
