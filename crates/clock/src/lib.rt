@@ -14,7 +14,7 @@ ghost use Prim.Native.Nat.{_+_, _≤_};
 ghost use lib.ListN.{replicate};
 ghost use Rattle.refusal.specs.Said.{numberOf, valuesOf};
 ghost use Rattle.lists.specs.Records.{records, back};
-ghost use Rattle.clock.specs.Clocks.{clockOf, clockZero, clockMost, clockAt, clocksOf};
+ghost use Rattle.clock.specs.Clocks.{clockOf, clockValues, clockZero, clockMost, clockAt, clocksOf};
 ghost use Rattle.clock.specs.Answers.{itemClock, backClocks};
 
 // A mode of the distributed clock. Times are in ns.
@@ -133,4 +133,20 @@ fn clock_at(image: &[u8], chunk: Chunk, at: u32) -> DistributedClock
         name_string_idx: byte_of(image, chunk, at + 18),
         description_string_idx: byte_of(image, chunk, at + 19),
     }
+}
+
+// A record as the numbers that the list gives of it, in their order.
+pub fn clock_row(c: DistributedClock) -> [u64; 8]
+    ensures { λ r. ⌜ r ≡ clockValues c ⌝ }
+{
+    [
+        c.cycle_time0 as u64,
+        c.shift_time0 as u64,
+        c.shift_time1 as u64,
+        c.sync1_cycle_factor as u64,
+        c.assign_activate as u64,
+        c.sync0_cycle_factor as u64,
+        c.name_string_idx as u64,
+        c.description_string_idx as u64,
+    ]
 }

@@ -1,6 +1,6 @@
 -- PDOs as the SII lists them. Definitions only.
 use Prim.Native.Nat.{ℕ, zero, suc, _+_, _*_}
-use mathlib.Core.List.{List}
+use mathlib.Core.List.{List, [], _∷_}
 use lib.Dec.{leb}
 use Rattle.refusal.specs.Said.{pick}
 use Rattle.category.specs.Category.{categorySaid}
@@ -46,6 +46,10 @@ pdoOf image p = record {
   «sync_manager» = field image p pdoSyncM;
   «bit_len» = bitsOf image p;
 }
+
+-- the numbers that a list gives of it
+abbrev pub pdoValues : Pdo → List ℕ
+pdoValues p = p .index ∷ p .«num_entries» ∷ p .«sync_manager» ∷ p .«bit_len» ∷ []
 
 -- what stands at p of a category that ends at end; an entry that is missing is bad
 unfoldable pub pdoAt : List ℕ → ℕ → ℕ → Item Pdo

@@ -1,13 +1,13 @@
 -- Sync managers as the SII lists them. Definitions only.
 use Prim.Native.Nat.{ℕ, _+_, _/_, _%_}
-use mathlib.Core.List.{List}
+use mathlib.Core.List.{List, [], _∷_}
 use mathlib.Core.Bool.{Bool, false}
 use lib.Dec.{leb, ltb, eqb}
 use Rattle.refusal.specs.Said.{pick}
 use Rattle.category.specs.Numbers as numbers
 use Rattle.category.specs.Category.{categorySaid}
 use Rattle.sii.specs.Layout.{field}
-use Rattle.sii.specs.General.{listed}
+use Rattle.sii.specs.General.{bit, listed}
 use Rattle.lists.specs.Layout.{smBytes, physicalStartAddress, smLength, controlRegister, enableSyncM, enableBelow, syncMType}
 use Rattle.lists.specs.Records.{Item, one, none, bad, Listed, records, inCategory}
 use Rattle.lists.specs.declared.SyncManager.{SyncManager}
@@ -44,6 +44,12 @@ smOf image p = record {
   enable = field image p enableSyncM;
   «usage_type» = usageType (field image p syncMType);
 }
+
+-- the numbers that a list gives of it
+abbrev pub smValues : SyncManager → List ℕ
+smValues sm =
+    sm .«start_addr» ∷ sm .«length_bytes» ∷ sm .«operation_mode» ∷ sm .direction
+    ∷ bit (sm .«ecat_event_enable») ∷ bit (sm .«dls_user_event_enable») ∷ bit (sm .«watchdog_enable») ∷ sm .enable ∷ sm .«usage_type» ∷ []
 
 -- no undefined bit stands in the enable byte
 abbrev pub smAdmits : SyncManager → Bool

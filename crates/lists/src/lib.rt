@@ -16,11 +16,11 @@ ghost use Prim.Native.Nat.{_+_, _/_, _%_, _≤_, min};
 ghost use lib.ListN.{replicate};
 ghost use Rattle.refusal.specs.Said.{numberOf, valuesOf};
 ghost use Rattle.category.specs.Numbers.{txPdo, rxPdo};
-ghost use Rattle.sii.specs.General.{listed};
+ghost use Rattle.sii.specs.General.{bit, listed};
 ghost use Rattle.lists.specs.Records.{no, holds, records, back};
-ghost use Rattle.lists.specs.SyncManagers.{modeOf, smOf, smZero, smMost, smAt, smsOf};
+ghost use Rattle.lists.specs.SyncManagers.{modeOf, smOf, smValues, smZero, smMost, smAt, smsOf};
 ghost use Rattle.lists.specs.Fmmus.{fmmuMost, usageAdmits, usageAt, usagesOf, exAt, exOf, fmmuAt};
-ghost use Rattle.lists.specs.Pdos.{entriesOf, sumTo, entryBits, pdoOf, pdoZero, pdoMost, pdoAt, pdosOf};
+ghost use Rattle.lists.specs.Pdos.{entriesOf, sumTo, entryBits, pdoOf, pdoValues, pdoZero, pdoMost, pdoAt, pdosOf};
 ghost use Rattle.lists.specs.Answers.{itemSm, backSms, itemPdo, backPdos, itemFmmu, backFmmus};
 
 // What a list's call says: listed, or a refusal, and then the list is empty.
@@ -479,4 +479,43 @@ fn entry_bits(image: &[u8], chunk: Chunk, at: u32, k: u8) -> u8
     ensures { λ r. ⌜ r ≡ entryBits (now (image .entry)) at k ⌝ }
 {
     byte_of(image, chunk, at + 8 + 8 * (k as u32) + 5)
+}
+
+// ---- each record as the numbers that a list gives of it, in their order
+
+pub fn sync_manager_row(s: SyncManager) -> [u64; 9]
+    ensures { λ r. ⌜ r ≡ smValues s ⌝ }
+{
+    let ecat_event = flag(s.ecat_event_enable);
+    let dls_user_event = flag(s.dls_user_event_enable);
+    let watchdog = flag(s.watchdog_enable);
+    [
+        s.start_addr as u64,
+        s.length_bytes as u64,
+        s.operation_mode as u64,
+        s.direction as u64,
+        ecat_event,
+        dls_user_event,
+        watchdog,
+        s.enable as u64,
+        s.usage_type as u64,
+    ]
+}
+
+pub fn pdo_row(p: Pdo) -> [u64; 4]
+    ensures { λ r. ⌜ r ≡ pdoValues p ⌝ }
+{
+    [
+        p.index as u64,
+        p.num_entries as u64,
+        p.sync_manager as u64,
+        p.bit_len as u64,
+    ]
+}
+
+// 1 where the test holds.
+fn flag(b: bool) -> u64
+    ensures { λ r. ⌜ r ≡ bit b ⌝ }
+{
+    if b { 1 } else { 0 }
 }

@@ -10,7 +10,7 @@ ghost use mathlib.Core.Path.{_≡_};
 ghost use mathlib.Core.List.{[], _∷_};
 ghost use Rattle.refusal.specs.Said.{saidOf};
 ghost use Rattle.crc.specs.Crc.{crcOf};
-ghost use Rattle.setup.specs.Setup.{pdiOf, pdiSaid, bootstrapOf, bootstrapSaid, versionSaid, summed, checksumSaid};
+ghost use Rattle.setup.specs.Setup.{pdiOf, pdiValues, pdiSaid, bootstrapOf, bootstrapValues, bootstrapSaid, versionSaid, summed, checksumValues, checksumSaid};
 ghost use Rattle.setup.specs.Answers.{saidPdi, saidBootstrap, saidVersion, saidChecksum};
 
 // Where the fields lie, in bytes.
@@ -152,4 +152,34 @@ fn bytes_summed(image: &[u8], chunk: Chunk) -> [u8; 14]
         i += 1;
     }
     bytes
+}
+
+// ---- each record as the numbers that an answer gives, in their order
+
+pub fn pdi_row(p: PdiControl) -> [u64; 4]
+    ensures { λ r. ⌜ r ≡ pdiValues p ⌝ }
+{
+    [
+        p.pdi_control as u64,
+        p.pdi_configuration as u64,
+        p.sync_impulse_length as u64,
+        p.pdi_configuration2 as u64,
+    ]
+}
+
+pub fn bootstrap_row(m: BootstrapMailbox) -> [u64; 4]
+    ensures { λ r. ⌜ r ≡ bootstrapValues m ⌝ }
+{
+    [
+        m.subdevice_receive_offset as u64,
+        m.subdevice_receive_size as u64,
+        m.subdevice_send_offset as u64,
+        m.subdevice_send_size as u64,
+    ]
+}
+
+pub fn checksum_row(c: Checksums) -> [u64; 2]
+    ensures { λ r. ⌜ r ≡ checksumValues c ⌝ }
+{
+    [c.stored as u64, c.computed as u64]
 }

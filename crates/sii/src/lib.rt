@@ -16,8 +16,8 @@ ghost use mathlib.Core.List.{[], _∷_};
 ghost use Prim.Native.Nat.{_+_, _/_, _%_, _≤_};
 ghost use lib.ListN.{length};
 ghost use Rattle.refusal.specs.Said.{saidOf};
-ghost use Rattle.sii.specs.Fixed.{aliasSaid, identityOf, identitySaid, mailboxOf, mailboxSaid, sizeSaid, checksumEnd, withAlias, withChecksum, setSaid, setImage};
-ghost use Rattle.sii.specs.General.{listed, generalOf, generalAdmits, generalIn, generalFound, generalSaid};
+ghost use Rattle.sii.specs.Fixed.{aliasSaid, identityOf, identityValues, identitySaid, mailboxOf, mailboxValues, mailboxSaid, sizeSaid, checksumEnd, withAlias, withChecksum, setSaid, setImage};
+ghost use Rattle.sii.specs.General.{bit, listed, generalOf, generalValues, generalAdmits, generalIn, generalFound, generalSaid};
 ghost use Rattle.sii.specs.Answers.{saidAlias, saidSet, saidSize, saidIdentity, saidMailbox, saidFound, saidGeneral};
 
 // Where the fields of the fixed area lie, in bytes.
@@ -301,4 +301,69 @@ fn general_at(image: &[u8], chunk: Chunk, at: u32) -> SiiGeneral
         port3: port_status(ports / 4096 % 16),
         physical_memory_addr: word_of(image, chunk, at + 16),
     }
+}
+
+// ---- each record as the numbers that an answer gives, in their order
+
+pub fn identity_row(d: SubDeviceIdentity) -> [u64; 4]
+    ensures { λ r. ⌜ r ≡ identityValues d ⌝ }
+{
+    [
+        d.vendor_id as u64,
+        d.product_id as u64,
+        d.revision as u64,
+        d.serial as u64,
+    ]
+}
+
+pub fn mailbox_row(m: DefaultMailbox) -> [u64; 5]
+    ensures { λ r. ⌜ r ≡ mailboxValues m ⌝ }
+{
+    [
+        m.subdevice_receive_offset as u64,
+        m.subdevice_receive_size as u64,
+        m.subdevice_send_offset as u64,
+        m.subdevice_send_size as u64,
+        m.supported_protocols as u64,
+    ]
+}
+
+pub fn general_row(g: SiiGeneral) -> [u64; 14]
+    ensures { λ r. ⌜ r ≡ generalValues g ⌝ }
+{
+    [
+        wide8(g.group_string_idx),
+        wide8(g.image_string_idx),
+        wide8(g.order_string_idx),
+        wide8(g.name_string_idx),
+        wide8(g.coe_details),
+        flag(g.foe_enabled),
+        flag(g.eoe_enabled),
+        wide8(g.flags),
+        wide16(g.ebus_current),
+        wide8(g.port0),
+        wide8(g.port1),
+        wide8(g.port2),
+        wide8(g.port3),
+        wide16(g.physical_memory_addr),
+    ]
+}
+
+fn wide8(x: u8) -> u64
+    ensures { λ r. ⌜ r ≡ x ⌝ }
+{
+    x as u64
+}
+
+fn wide16(x: u16) -> u64
+    ensures { λ r. ⌜ r ≡ x ⌝ }
+{
+    x as u64
+}
+
+// 1 where the test holds.
+fn flag(b: bool) -> u64
+    ensures { λ r. ⌜ r ≡ bit b ⌝ }
+{
+    if b { 1 } else { 0 }
 }
