@@ -3,7 +3,7 @@
  * Each call answers a code:
  *
  *     0        MOREL_GIVES: the answer's values stand at the front of the row `out`
- *     1 to 14  a refusal, by its number
+ *     1 to 14  a refusal, by its number; more numbers may be added
  *     255      MOREL_ABSENT: there is no such thing, which is an answer and no refusal
  *
  * and puts numbers over the front of the row that is lent to it, as many as the row has room for. What stands behind them stays, and so does the
