@@ -67,9 +67,9 @@ USAGE = """\
 usage: morel COMMAND [then COMMAND ..]
   sii FILE                 print what an EEPROM image holds
   frame FILE               print a frame's PDUs
-  alias FILE N [force]     write the alias N and the checksum into an EEPROM image; `force`: though its checksum is wrong
+  alias FILE N [force]     write the alias N and the checksum into an EEPROM image; `force`: even if its checksum is wrong
   spread SIZE AREAS FILE   cut a process image over AREAS frames of SIZE bytes
-Numbers are decimal, or hex behind 0x. Commands joined by the word `then` run one after the other; one that fails stops no other.
+Numbers are decimal, or hex after 0x. Commands joined by the word `then` run one after the other; one that fails stops no other.
 """.splitlines()
 
 
@@ -192,6 +192,8 @@ GENERAL = (
     ("general port 2", named(PORTS)), ("general port 3", named(PORTS)),
     ("general physical address", hex16),
 )
+PHYSICAL_PORTS = tuple((f"physical port {place}", named(PORTS))
+                       for place in range(4))
 SYNC_MANAGER = (
     ("start", hex16), ("bytes", str), ("mode", named(MODES)),
     ("direction", named(DIRECTIONS)), ("ecat event", yes), ("dls event", yes),
@@ -222,35 +224,11 @@ def cut_line(image):
                  "and read as 0xff")]
 
 
-def last_header_inside(image):
-    """Whether every header up to the end of the categories, and the mark
-    there, lie in the image."""
-    word, empty = category.FIRST_WORD, 0
-    while True:
-        kind = eeprom.word_at(image, word)
-        length = eeprom.word_at(image, word + 1)
-        mark = kind == category.END_TYPE
-        if 2 * (word + (1 if mark else category.HEADER_WORDS)) > len(image):
-            return False
-        empty += length == 0
-        word += category.HEADER_WORDS
-        if mark or word > eeprom.HIGHEST or empty == category.EMPTY_LIMIT:
-            return True
-        word += length
-
-
-def inside(image, number):
-    """Whether the category, or where there is none what was looked at to know
-    it, lies in the image."""
-    at = category.category(image, number)
-    if at is ABSENT:
-        return last_header_inside(image)
-    return at.end <= len(image)
-
-
 def category_cut(image, number):
+    """Whether the category, or where there is none what was looked at to know
+    it, lies not whole in the image."""
     try:
-        return not inside(image, number)
+        return not category.inside(image, number)
     except Refusal:
         # A length may have been read past the end.
         return len(image) < whole(image)
@@ -322,10 +300,17 @@ def fixed_lines(image):
             for text in marked(lines, len(image) < end)]
 
 
+def physical_lines(image):
+    return (fields("physical ports", PHYSICAL_PORTS, sii.physical_ports, image)
+            + one("physical memory address", hex16,
+                  sii.physical_memory_address, image))
+
+
 def category_lines(image):
     parts = (
         (category_cut(image, category.GENERAL),
-         fields("general", GENERAL, sii.general, image)),
+         fields("general", GENERAL, sii.general, image)
+         + physical_lines(image)),
         (names_cut(image),
          string_line("device name", strings.device_name, image)),
         (names_cut(image),
@@ -464,8 +449,8 @@ def alias_command(folder, path, word, *further):
                      "right" if stored == computed else "wrong")]
         if stored != computed and not further:
             return said + [line(
-                "alias", "not written, for the checksum is wrong; the further "
-                "word force writes it", WRONG)]
+                "alias", "not written: the checksum is wrong; add the word "
+                "force to write it anyway", WRONG)]
         try:
             with open(os.path.join(os.fsencode(folder), path), "r+b") as file:
                 file.write(image)

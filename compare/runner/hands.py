@@ -29,17 +29,17 @@ NOBODY = 65_534
 # The milliseconds in which `run` has started the program.
 START_MOST = 50
 
-# A stand-in for `rt`: `rt check morel` says two crates, takes its time and
-# leaves the program. Two at once, or a file `broken`, and it fails.
+# A stand-in for `rt`: `rt check morel` says two crates, takes PACE seconds for
+# each and leaves the program. Two at once, or a file `broken`, and it fails.
 STAND_IN = """\
 #!/bin/sh
 [ "$*" = "check morel" ] || exit 2
 [ ! -e broken ] || { echo "rt: wire NOT PROVED"; exit 1; }
 mkdir target/proving || { echo "rt: two at once"; exit 1; }
 echo "rt: refusal proved (1 s)"
-sleep 2
+sleep "$PACE"
 echo "rt: wire proved (1 s)"
-sleep 1
+sleep "$PACE"
 mkdir -p target/bin
 cp program target/bin/morel
 echo proved >>target/proofs
@@ -130,7 +130,7 @@ class Copy:
             file.write(STAND_IN)
         os.chmod(rt, 0o755)
         self.path = self.tools + os.pathsep + os.environ["PATH"]
-        self.env = {"RATTLE_HOME": kit()}
+        self.env = {"RATTLE_HOME": kit(), "PACE": "0.3"}
 
     def touch(self, path):
         with open(path, "ab"):
@@ -220,6 +220,8 @@ def test_without_flock(copy):
 @in_copy
 def test_progress(copy):
     """Crate k of n, a line for each; on a terminal one line that moves."""
+    # It looks every second.
+    copy.env["PACE"] = "1.5"
     told = copy.ran().told
     count = sum(1 for _ in crates())
     for crate in (2, 3):
@@ -339,8 +341,9 @@ def test_statuses():
         ("sii loom-checksum.sii", 1), ("sii loom-cut.sii", 1),
         ("sii loom-fmmu.sii", 1), ("frame loom-length.frame", 1),
         ("spread 12 1 loom.image", 1), ("alias loom-short.sii 1", 1),
-        ("sii missing.sii", 2), ("sii loom-large.sii", 2), ("weave loom.sii", 2),
-        ("sii", 2), ("alias loom.sii x", 2), ("alias loom.sii 1 farce", 2),
+        ("sii missing.sii", 2), ("sii loom-large.sii", 2),
+        ("weave loom.sii", 2), ("sii", 2), ("alias loom.sii x", 2),
+        ("alias loom.sii 1 farce", 2),
         ("spread x 1 loom.image", 2),
         ("sii loom.sii then sii loom-cut.sii then frame loom.frame", 1),
         ("sii missing.sii then sii loom-cut.sii then sii loom.sii", 2),
@@ -432,7 +435,8 @@ def marks_of_a_cut(length, most, said, status, whole):
     else:
         expect(not lines[3].startswith("image cut"), f"cut at {length}")
     changed = [text for label, text in labelled(said).items()
-               if whole.get(label) != text and not label.startswith("image cut")]
+               if whole.get(label) != text
+               and not label.startswith("image cut")]
     for text in changed:
         expect(text.endswith(morel.CUT), f"cut at {length}: {text}")
     expect(status == (1 if changed else 0), f"cut at {length}: {status}")

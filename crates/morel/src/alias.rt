@@ -59,7 +59,7 @@ fn may_write(right: bool, force: bool) -> bool {
     if !force {
         line(
             b"alias",
-            b"not written, for the checksum is wrong; the further word force writes it",
+            b"not written: the checksum is wrong; add the word force to write it anyway",
         );
     }
     force

@@ -5,11 +5,6 @@ use crate::cut::SIZE_END;
 use crate::cut::category_cut;
 use crate::cut::ends_before;
 use crate::records;
-use crate::rows::bootstrap_row;
-use crate::rows::general_row;
-use crate::rows::identity_row;
-use crate::rows::mailbox_row;
-use crate::rows::pdi_row;
 use crate::status::WRONG;
 use crate::status::worse;
 use crate::text::no;
@@ -22,11 +17,19 @@ use setup::ChecksumAnswer;
 use setup::Checksums;
 use setup::PdiAnswer;
 use setup::VersionAnswer;
+use setup::bootstrap_row;
+use setup::pdi_row;
 use sii::AliasAnswer;
 use sii::GeneralAnswer;
 use sii::IdentityAnswer;
 use sii::MailboxAnswer;
+use sii::PortsAnswer;
 use sii::SizeAnswer;
+use sii::WordAnswer;
+use sii::general_row;
+use sii::identity_row;
+use sii::mailbox_row;
+use sii::ports_row;
 
 // Where what is read of the fixed area ends, in bytes.
 const PDI_END: usize = 8;
@@ -46,7 +49,7 @@ pub(crate) fn print(image: &[u8]) -> u8 {
     let fixed = worse(coding(image), setup_words(image));
     let identity = worse(identity(image), mailboxes(image));
     let general_cut = category_cut(image, category::GENERAL);
-    let general = general(image, general_cut);
+    let general = worse(general(image, general_cut), physical(image, general_cut));
     let texts = texts::print(image, general_cut);
     let lists = records::print(image);
     worse(worse(fixed, identity), worse(general, worse(texts, lists)))
@@ -204,5 +207,34 @@ fn general(image: &[u8], cut: bool) -> u8 {
             &general_row(g),
         ),
         GeneralAnswer::No(x) => refused(cut, b"general", no(x)),
+    }
+}
+
+// Ports and address of General by ETG2010's places; ethercrab reads them two bytes before.
+fn physical(image: &[u8], cut: bool) -> u8 {
+    let ports = physical_ports(image, cut);
+    let address = physical_memory_address(image, cut);
+    worse(ports, address)
+}
+
+fn physical_ports(image: &[u8], cut: bool) -> u8 {
+    match sii::physical_ports(image, Chunk::Eight) {
+        PortsAnswer::Is(p) => record(
+            cut,
+            0,
+            b"vphysical port 0=Unused Mii Reserved Ebus FastHotConnect,\
+              vphysical port 1=Unused Mii Reserved Ebus FastHotConnect,\
+              vphysical port 2=Unused Mii Reserved Ebus FastHotConnect,\
+              vphysical port 3=Unused Mii Reserved Ebus FastHotConnect",
+            &ports_row(p),
+        ),
+        PortsAnswer::No(x) => refused(cut, b"physical ports", no(x)),
+    }
+}
+
+fn physical_memory_address(image: &[u8], cut: bool) -> u8 {
+    match sii::physical_memory_address(image, Chunk::Eight) {
+        WordAnswer::Word(n) => record(cut, 0, b"4physical memory address", &[n as u64]),
+        WordAnswer::No(x) => refused(cut, b"physical memory address", no(x)),
     }
 }

@@ -6,7 +6,6 @@ mod file;
 mod frame;
 mod image;
 mod records;
-mod rows;
 mod spreading;
 mod status;
 mod text;
@@ -105,9 +104,9 @@ fn usage() -> u8 {
 usage: morel COMMAND [then COMMAND ..]
   sii FILE                 print what an EEPROM image holds
   frame FILE               print a frame's PDUs
-  alias FILE N [force]     write the alias N and the checksum into an EEPROM image; `force`: though its checksum is wrong
+  alias FILE N [force]     write the alias N and the checksum into an EEPROM image; `force`: even if its checksum is wrong
   spread SIZE AREAS FILE   cut a process image over AREAS frames of SIZE bytes
-Numbers are decimal, or hex behind 0x. Commands joined by the word `then` run one after the other; one that fails stops no other.",
+Numbers are decimal, or hex after 0x. Commands joined by the word `then` run one after the other; one that fails stops no other.",
     )
 }
 

@@ -1,8 +1,5 @@
 // The lists of an image: sync managers, FMMUs, PDOs, modes of the distributed clock. A list's first line has its count, or the refusal that it gives.
 use crate::cut::category_cut;
-use crate::rows::clock_row;
-use crate::rows::pdo_row;
-use crate::rows::sync_manager_row;
 use crate::status::worse;
 use crate::text::decimal;
 use crate::text::end;
@@ -13,11 +10,14 @@ use crate::text::record;
 use crate::text::refused;
 use crate::text::wide8;
 use clock::DistributedClocks;
+use clock::clock_row;
 use eeprom::Chunk;
 use lists::FmmuList;
 use lists::ListAnswer;
 use lists::PdoList;
 use lists::SyncManagers;
+use lists::pdo_row;
+use lists::sync_manager_row;
 use wire::lesser;
 
 pub(crate) fn print(image: &[u8]) -> u8 {

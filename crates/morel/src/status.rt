@@ -17,7 +17,7 @@ pub(crate) fn worse(a: u8, b: u8) -> u8 {
     if a < b { b } else { a }
 }
 
-// The argument at which the commands begin: behind the word that asks for the status.
+// The argument at which the commands begin: after the word that asks for the status.
 pub(crate) fn commands_from() -> usize {
     if is_word(1, b"--status") { 2 } else { 1 }
 }

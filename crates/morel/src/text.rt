@@ -19,7 +19,7 @@ pub(crate) fn decimal(v: u64) {
     io::print_decimal(STDOUT_FILENO, v);
 }
 
-// A line's end, behind a mark where what the line says was read past the end of an image.
+// A line's end, after a mark where what the line says was read past the end of an image.
 pub(crate) fn end(cut: bool) {
     if cut {
         say(b" (cut)");
@@ -229,7 +229,7 @@ pub(crate) fn refused(cut: bool, name: &[u8], number: u64) -> u8 {
     refusal(cut, number)
 }
 
-// A field by its text in the table: its kind, its label and, behind `=`, the names of its values.
+// A field by its text in the table: its kind, its label and, after `=`, the names of its values.
 fn field(cut: bool, i: usize, text: &[u8], v: u64) {
     let at = find(text, 0, b'=');
     label(i, back(front(text, at), 1));

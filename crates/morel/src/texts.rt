@@ -88,16 +88,16 @@ fn category(image: &[u8], cut: bool) -> u8 {
     }
 }
 
-// Whether a string that is sought in an empty category is sought past the image's end: a count and a length are read behind the category.
-fn sought_behind(image: &[u8]) -> bool {
+// Whether a string that is sought in an empty category is sought past the image's end: a count and a length are read after the category.
+fn sought_after(image: &[u8]) -> bool {
     match category::category(image, Chunk::Eight, category::STRINGS) {
-        Found::At(g) => behind(image, g),
+        Found::At(g) => after(image, g),
         Found::Absent => false,
         Found::No(_) => false,
     }
 }
 
-fn behind(image: &[u8], g: Range) -> bool {
+fn after(image: &[u8], g: Range) -> bool {
     if g.byte_pos == g.end {
         ends_before(image, wrapping_add_usize(g.end as usize, 2))
     } else {
@@ -112,7 +112,7 @@ fn named_cut(image: &[u8], general_cut: bool, cut: bool) -> bool {
     } else if cut {
         true
     } else {
-        sought_behind(image)
+        sought_after(image)
     }
 }
 

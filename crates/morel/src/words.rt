@@ -17,7 +17,7 @@ pub(crate) fn is_word(i: usize, word: &[u8]) -> bool {
     same(&room[..n], word)
 }
 
-// An argument as a number of at most 32 bits, in decimal, or in hex behind `0x`.
+// An argument as a number of at most 32 bits, in decimal, or in hex after `0x`.
 pub(crate) fn number(i: usize) -> u64 {
     let mut word = [0u8; 32];
     let n = os::arg(i, &mut word);
