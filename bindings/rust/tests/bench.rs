@@ -1,4 +1,4 @@
-//! Each wrapper with good and bad input: document 01's bench cases, and numbers worked out by hand from its words.
+//! Each wrapper with good and bad input: the bench cases (docs/RULES.md), and numbers worked out by hand from the rules.
 use morelbarrel::*;
 
 fn image() -> Vec<u8> {

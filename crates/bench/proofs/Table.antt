@@ -13,7 +13,7 @@ use Rattle.eeprom.specs.Range.{newSaid, byteIn, byteSaid, skipIn, skipSaid}
 use Rattle.category.specs.Category.{among, counted, decided, stepped, searchOver, searchFrom, searched, categorySaid}
 use Rattle.strings.specs.Strings.{stringPast, passedOne, passed, fitted, stringHere, stringBehind, stringIn, soughtAt, ascii, shown, textSaid, fits, bounded, textFor, stringSaid}
 use Rattle.ports.specs.Ports.{those, folded, activePorts, fresh, timesSet}
-use Rattle.ports.specs.Delays.{largest, smallest, spread, delaySaid, total, totalSaid, gap, gaps, sumSaid, intermediateSaid}
+use Rattle.ports.specs.Delays.{largest, smallest, breadth, delaySaid, total, totalSaid, gap, gaps, sumSaid, intermediateSaid}
 use Rattle.cuts.specs.Measure.{cap}
 use Rattle.created_frame.specs.Frame.{sound, acceptable, room, more, marked, afterOpen, pushed, pushedBuilder, pushedNext, afterPush, restBuilder, restNext}
 use Rattle.created_frame.specs.Built.{run}
@@ -64,7 +64,7 @@ unfolding
     within fine newSaid byteIn byteSaid skipIn skipSaid
     among counted decided stepped searchOver searchFrom searched categorySaid
     stringPast passedOne passed fitted stringHere stringBehind stringIn soughtAt ascii shown textSaid fits bounded textFor stringSaid
-    those folded activePorts fresh timesSet largest smallest spread delaySaid total totalSaid gap gaps sumSaid intermediateSaid
+    those folded activePorts fresh timesSet largest smallest breadth delaySaid total totalSaid gap gaps sumSaid intermediateSaid
     sound acceptable room more marked afterOpen pushed pushedBuilder pushedNext afterPush restBuilder restNext run
     cap rowFrom lawful roomIn spreadOf
 computed = refl

@@ -11,6 +11,10 @@ firstHeader = 64
 abbrev pub headerWords : ℕ
 headerWords = 2
 
+-- of the mark behind the last category the type alone: an image may end with it
+abbrev pub markWords : ℕ
+markWords = 1
+
 abbrev pub typeAt : List ℕ → ℕ → ℕ
 typeAt image w = le16 image (2 * w)
 

@@ -1,4 +1,4 @@
--- The CRC-8 as a division of polynomials over the bits 0 and 1: document 01, 'What is read out'. Definitions only.
+-- The CRC-8 as a division of polynomials over the bits 0 and 1: RULES, read-out. Definitions only.
 -- A polynomial is the list of its coefficients, the highest first; to add or to take away is the exclusive or.
 use Prim.Native.Nat.{ℕ, zero, suc, _+_, _*_, _/_, _%_}
 use mathlib.Core.List.{List, [], _∷_, _++_}

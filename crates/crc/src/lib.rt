@@ -1,5 +1,5 @@
 // The CRC-8 of the SII: polynomial 0x07, start 0xFF, no reflection, no final xor.
-// Follows `STATION_ALIAS_CRC` of src/eeprom/mod.rs and document 01, 'What is read out'.
+// Follows `STATION_ALIAS_CRC` of src/eeprom/mod.rs and RULES, read-out.
 ghost use mathlib.Core.Path.{_≡_};
 ghost use Rattle.crc.specs.Crc.{crcOf};
 ghost use Rattle.crc.specs.Steps.{shifted, shiftedBy};

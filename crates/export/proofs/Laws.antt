@@ -1,12 +1,13 @@
 -- Laws of what is told: what says the same is told the same, so an export's proof shows only that its values are the answer's.
-use Prim.Native.Nat.{ℕ}
+use Prim.Native.Nat.{ℕ, _≤_, _<_}
 use mathlib.Core.Path.{_≡_, refl, sym, ap, _∙_}
 use lib.ListN.{length}
 use mathlib.Core.Bool.{Bool, true, false}
 use mathlib.Core.List.{List, [], _∷_}
+use borrow.Author.Tests.{lt-ltb, le-ltb}
 use types.Run.{OneOf, miss}
 use denote.Enum.Declared.{tagOf}
-use Rattle.refusal.specs.Said.{Said, absent, numberOf, valuesOf, saidOf, pick}
+use Rattle.refusal.specs.Said.{Said, absent, refuses, numberOf, valuesOf, saidOf, pick}
 use Rattle.refusal.specs.declared.Refusal.{Refusal}
 use Rattle.refusal.proofs.Refusal.{the-type}
 use Rattle.refusal.specs.declared.Refusal.the-variants.{
@@ -27,8 +28,10 @@ use Rattle.refusal.specs.declared.Refusal.the-variants.{
 }
 use Rattle.sii.specs.General.{bit}
 use Rattle.created_frame.specs.declared.Builder.{Builder}
+use Rattle.pdu.specs.Pdu.{frameHeaderBytes}
+use Rattle.pdu.specs.Answers.{headerSaid}
 use Rattle.wire.proofs.Laws.{laid-none}
-use Rattle.export.specs.Told.{codeOf, rowOver, stateOver, bytesOver}
+use Rattle.export.specs.Told.{codeOf, rowOver, stateOver, bytesOver, headerTold}
 
 -- what says the same is told the same
 pub told : (s t : Said) (r : ℕ) (before after : List ℕ) → s ≡ t → (r ≡ codeOf s) × (after ≡ rowOver before s)
@@ -49,6 +52,15 @@ state-told s t b d i j before after e f h = rw (← e, ← f .0, ← f .1) h
 pub told-bytes : (s t : Said) (r : ℕ) (xs ys before after : List ℕ) → s ≡ t → xs ≡ ys → (r ≡ codeOf s) × (after ≡ bytesOver before s xs)
     → (r ≡ codeOf t) × (after ≡ bytesOver before t ys)
 told-bytes s t r xs ys before after e f h = (h .0 ∙ ap codeOf e, rw (← e, ← f) (h .1))
+
+-- a frame's header where there is no room for it, and where there is
+pub header-short : (used room : ℕ) → room < frameHeaderBytes → refuses 14 [] ≡ headerTold used room
+unfolding headerTold
+header-short used room h = rw (lt-ltb room frameHeaderBytes h)
+
+pub header-room : (used room : ℕ) → frameHeaderBytes ≤ room → headerSaid used ≡ headerTold used room
+unfolding headerTold
+header-room used room h = rw (le-ltb room frameHeaderBytes h)
 
 -- absent: the row stays
 pub told-absent : (t : Said) (row : List ℕ) → absent ≡ t → (255 ≡ codeOf t) × (row ≡ rowOver row t)

@@ -1,10 +1,13 @@
 -- How an answer is told to a program in another language: a code, and numbers over the front of a row that it lends. Definitions only.
 use Prim.Native.Nat.{ℕ}
 use mathlib.Core.List.{List, [], _∷_, _++_, flatMap}
+use lib.Dec.{ltb}
 use lib.ListN.{length}
-use Rattle.refusal.specs.Said.{Said, gives, absent, refuses}
+use Rattle.refusal.specs.Said.{Said, gives, absent, refuses, pick}
 use Rattle.wire.specs.Bytes.{laid}
 use Rattle.sii.specs.General.{bit}
+use Rattle.pdu.specs.Pdu.{frameHeaderBytes}
+use Rattle.pdu.specs.Answers.{headerSaid}
 use Rattle.pdu.specs.declared.PduFields.{PduFields}
 use Rattle.created_frame.specs.declared.Builder.{Builder}
 use Rattle.spread.specs.Row.{Run}
@@ -49,6 +52,10 @@ unfoldable pub bytesOver : List ℕ → Said → List ℕ → List ℕ
 bytesOver before (gives l) bytes = laid before 0 bytes
 bytesOver before absent bytes = before
 bytesOver before (refuses n l) bytes = before
+
+-- what is told of a frame's header that is to go to so many bytes: fewer than its own are an argument out of bounds
+unfoldable pub headerTold : ℕ → ℕ → Said
+headerTold used room = pick (ltb room frameHeaderBytes) (refuses 14 []) (headerSaid used)
 
 -- ---- rows of records
 

@@ -16,13 +16,17 @@ use created_frame::Pushed;
 use created_frame::Rest;
 use created_frame::RestPush;
 use pdu::HeaderAnswer;
+use refusal::Refusal;
 ghost use mathlib.Core.Path.{_≡_};
 ghost use mathlib.Core.List.{[], _∷_};
 ghost use lib.ListN.{length};
 ghost use Rattle.pdu.specs.Answers.{saidHeader, headerSaid, headerLeft};
 ghost use Rattle.created_frame.specs.Frame.{opened, afterOpen, pushed, pushedBuilder, pushedNext, afterPush, restPushed, restBuilder, restNext, afterRest, canPush};
 ghost use Rattle.created_frame.specs.Answers.{handleValues, saidOpened, saidPushed, saidRest};
-ghost use Rattle.export.specs.Told.{codeOf, rowOver, stateOf, stateOver, bytesOver};
+ghost use Rattle.export.specs.Told.{codeOf, rowOver, stateOf, stateOver, bytesOver, headerTold};
+
+// The header of a frame, in bytes.
+const FRAME_HEADER_BYTES: usize = 2;
 
 // Zeroes the area; the row takes the state of an empty one: used, count, last.
 #[no_mangle]
@@ -211,9 +215,20 @@ pub extern "C" fn morel_can_push_pdu_payload(
     }
 }
 
-// The two bytes of the header of a frame whose PDUs take this many bytes, at the front of `bytes`; a refusal leaves them as they are.
+// The two bytes of the header of a frame whose PDUs take this many bytes, at the front of `bytes`; fewer than two are refused. A refusal leaves them.
 #[no_mangle]
 pub extern "C" fn morel_frame_header(used: usize, bytes: &mut [u8]) -> u8
+    ensures code { λ r. ⌜ r ≡ codeOf (headerTold used (length (now (bytes .entry)))) ⌝ }
+    ensures lent { λ _. ⌜ now (bytes .exit) ≡ bytesOver (now (bytes .entry)) (headerTold used (length (now (bytes .entry)))) (headerLeft used) ⌝ }
+{
+    if bytes.len() < FRAME_HEADER_BYTES {
+        return refusal::number(Refusal::BadArgument);
+    }
+    put_header(used, bytes)
+}
+
+// The header over the front of the bytes, as much of it as they have room for.
+fn put_header(used: usize, bytes: &mut [u8]) -> u8
     ensures code { λ r. ⌜ r ≡ codeOf (headerSaid used) ⌝ }
     ensures lent { λ _. ⌜ now (bytes .exit) ≡ bytesOver (now (bytes .entry)) (headerSaid used) (headerLeft used) ⌝ }
 {

@@ -1,4 +1,4 @@
--- What a call says, on paper: values, that there is none, or a refusal by document 01's number with its values.
+-- What a call says, on paper: values, that there is none, or a refusal by its number (RULES, refusals) with its values.
 -- Every answer enum of the crates above has a map into Said, and the promises are equations of Said.
 use Prim.Native.Nat.{ℕ}
 use mathlib.Core.List.{List, [], _∷_}
@@ -27,7 +27,7 @@ pub data Said : Type 0 where
   absent : Said
   refuses : ℕ → List ℕ → Said
 
--- document 01's number of each refusal
+-- the number of each refusal (RULES, refusals)
 abbrev pub numberOf : Refusal → ℕ
 numberOf Address = 1
 numberOf Overrun = 2

@@ -1,4 +1,4 @@
--- Document 01, 'What is read out', strings. The category holds a count, then for each string its length and its bytes
+-- RULES, strings. The category holds a count, then for each string its length and its bytes
 -- (ETG1000.6 Table 20). Definitions only.
 use Prim.Native.Nat.{ℕ, zero, suc, _-_}
 use mathlib.Core.List.{List, [], _∷_}

@@ -1,5 +1,5 @@
 // Strings of the SII into a lent room: `find_string`, `device_name` and `device_description` of ethercrab's subdevice/eeprom.rs.
-// Document 01, 'What is read out', decides; specs/Strings.antt and specs/Names.antt have its rules in its order.
+// RULES, strings, decides; specs/Strings.antt and specs/Names.antt have its rules in its order.
 // A string is found by reading alone, and the room is written once it is known to be readable: a refusal has touched nothing.
 use category::Found;
 use category::STRINGS;
