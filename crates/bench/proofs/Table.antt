@@ -9,9 +9,9 @@ use Rattle.refusal.proofs.Tests.{both}
 use Rattle.wire.specs.Bytes.{byteAt, span, overlay}
 use Rattle.crc.specs.Crc.{bits, bitsOf, broughtDown, remainder, started, crcOf}
 use Rattle.eeprom.specs.Image.{within, fine}
-use Rattle.eeprom.specs.Range.{newSaid, byteIn, byteSaid, skipIn, skipSaid}
+use Rattle.eeprom.specs.Range.{newSaid, byteIn, byteSaid, skipIn, skipSaid, exactSaid}
 use Rattle.category.specs.Category.{among, counted, decided, stepped, searchOver, searchFrom, searched, categorySaid}
-use Rattle.strings.specs.Strings.{stringPast, passedOne, passed, fitted, stringHere, stringBehind, stringIn, soughtAt, ascii, shown, textSaid, fits, bounded, textFor, stringSaid}
+use Rattle.strings.specs.Strings.{stringPast, passedOne, passed, onExact, fitted, stringHere, stringBehind, stringIn, soughtAt, ascii, shown, textSaid, fits, bounded, textFor, stringSaid}
 use Rattle.ports.specs.Ports.{those, folded, activePorts, fresh, timesSet}
 use Rattle.ports.specs.Delays.{largest, smallest, breadth, delaySaid, total, totalSaid, gap, gaps, sumSaid, intermediateSaid}
 use Rattle.cuts.specs.Measure.{cap}
@@ -61,9 +61,9 @@ computed : agrees cases ≡ true
 unfolding
     agrees same sameList cases emptiesThenStrings twoStrings four three built
     on2 on3 byteAt span overlay bits bitsOf broughtDown remainder started crcOf
-    within fine newSaid byteIn byteSaid skipIn skipSaid
+    within fine newSaid byteIn byteSaid skipIn skipSaid exactSaid
     among counted decided stepped searchOver searchFrom searched categorySaid
-    stringPast passedOne passed fitted stringHere stringBehind stringIn soughtAt ascii shown textSaid fits bounded textFor stringSaid
+    stringPast passedOne passed onExact fitted stringHere stringBehind stringIn soughtAt ascii shown textSaid fits bounded textFor stringSaid
     those folded activePorts fresh timesSet largest smallest breadth delaySaid total totalSaid gap gaps sumSaid intermediateSaid
     sound acceptable room more marked afterOpen pushed pushedBuilder pushedNext afterPush restBuilder restNext run
     cap rowFrom lawful roomIn spreadOf

@@ -36,8 +36,10 @@ const SII_FIRST_CATEGORY_START: u32 = 64;
 
 const WORD_MOST: u32 = 65535;
 
-// How many words a header has, and how many of them the mark behind the last category needs.
+// How many words a header has, which of them is the length, and how many of them the mark behind the last category needs.
 const HEADER_WORDS: u32 = 2;
+
+const LENGTH_WORD: u32 = 1;
 
 const MARK_WORDS: u32 = 1;
 
@@ -182,7 +184,7 @@ fn header(image: &[u8], chunk: Chunk, number: u16, word: u32, empties: u32) -> S
     ensures { λ r. ⌜ saidStep r ≡ stepped (now (image .entry)) number word empties ⌝ }
 {
     let category_type = word_of(image, chunk, 2 * word);
-    let len_words = word_of(image, chunk, 2 * (word + 1));
+    let len_words = word_of(image, chunk, 2 * (word + LENGTH_WORD));
     decide(
         category_type,
         len_words,

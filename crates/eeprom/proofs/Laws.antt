@@ -8,12 +8,12 @@ use mathlib.Core.Bool.{Bool, true, false, _&&_}
 use lib.Dec.{leb, ltb, eqb}
 use lib.ListN.{length, getD}
 use lib.Seq.{drop-length}
-use borrow.Author.Tests.{lt-ltb, le-ltb, le-leb, lt-leb, leb-true, leb-false, eq-eqb, ne-eqb, eqb-true}
+use borrow.Author.Tests.{lt-ltb, le-ltb, ltb-true, ltb-false, le-leb, lt-leb, leb-true, eq-eqb, ne-eqb, eqb-true}
 use Rattle.refusal.specs.Said.{Said, gives, absent, refuses, pick, on3}
 use Rattle.refusal.proofs.Tests.{both}
 use Rattle.wire.specs.Bytes.{byteAt, span, filled}
 use Rattle.eeprom.specs.Image.{imageMost, endMost, within, fine}
-use Rattle.eeprom.specs.Range.{standing, newSaid, skipIn, skipSaid, byteIn, byteSaid, taken, readSaid, readBuf, exactSaid, exactPos, exactRange, exactBuf, writeSaid, writePos, writeImage}
+use Rattle.eeprom.specs.Range.{standing, newSaid, skipIn, skipSaid, byteIn, byteSaid, taken, readSaid, readBuf, allSaid, exactSaid, exactPos, exactRange, exactBuf, writeSaid, writePos, writeImage}
 use Rattle.eeprom.specs.declared.Range.{Range}
 
 -- ---- the bounds of a call
@@ -105,7 +105,7 @@ pub exact-gives : (image : List ℕ) (pos end k : ℕ) → fine image end ≡ tr
 unfolding exactSaid exactPos
 exact-gives image pos end k f h =
     let m : k ≤ end - pos = omega arith in
-    (rw (f, le-leb k (end - pos) m), rw (f, le-leb k (end - pos) m))
+    (rw (f, le-ltb (end - pos) k m), rw (f, le-ltb (end - pos) k m))
 
 -- no bytes always succeed
 pub exact-none : (image : List ℕ) (pos end : ℕ) → fine image end ≡ true → (exactSaid image pos end 0 ≡ gives []) × (exactPos image pos end 0 ≡ pos)
@@ -113,12 +113,12 @@ unfolding exactSaid exactPos
 exact-none image pos end f =
     let m : 0 ≤ end - pos = omega arith in
     let z : pos + 0 ≡ pos = omega arith in
-    (rw (f, le-leb 0 (end - pos) m), rw (f, le-leb 0 (end - pos) m, z))
+    (rw (f, le-ltb (end - pos) 0 m), rw (f, le-ltb (end - pos) 0 m, z))
 
 -- what does not fit is refused, and stands at the end, or stays if past it
 pub exact-refuses : (image : List ℕ) (pos end k : ℕ) → fine image end ≡ true → end - pos < k → (exactSaid image pos end k ≡ refuses 2 []) × (exactPos image pos end k ≡ max pos end)
 unfolding exactSaid exactPos
-exact-refuses image pos end k f h = (rw (f, lt-leb k (end - pos) h), rw (f, lt-leb k (end - pos) h))
+exact-refuses image pos end k f h = (rw (f, lt-ltb (end - pos) k h), rw (f, lt-ltb (end - pos) k h))
 
 -- outside the bounds it stays, and leaves the buffer
 pub exact-bad : (image : List ℕ) (pos end : ℕ) (buf : List ℕ) → fine image end ≡ false → (exactSaid image pos end (length buf) ≡ refuses 14 []) × ((exactPos image pos end (length buf) ≡ pos) × (exactBuf image pos end buf ≡ buf))
@@ -132,26 +132,22 @@ exact-fills image pos end buf f h =
     let n : min (length buf) (end - pos) ≡ length buf = omega arith in
     rw (f, n, drop-length, append-nil)
 
--- what an exact read says of a read that took n bytes of k
-abbrev pub exactly : ℕ → ℕ → ℕ → ℕ → Said
-exactly k n pos end = pick (ltb n k) (refuses 2 []) (gives [])
-
 -- an exact read is a read, and the test that it took all
-pub exact-reads : (image : List ℕ) (pos end k : ℕ) → exactSaid image pos end k ≡ on3 (readSaid image pos end k) (exactly k)
+pub exact-reads : (image : List ℕ) (pos end k : ℕ) → exactSaid image pos end k ≡ on3 (readSaid image pos end k) (λ n p e. allSaid n k)
 unfolding exactSaid readSaid on3
-exact-reads image pos end k = go (fine image end) (leb k (end - pos)) refl
+exact-reads image pos end k = go (fine image end) (ltb (end - pos) k) refl
   where
-    go : (f b : Bool) → leb k (end - pos) ≡ b
-        → pick f (pick b (gives []) (refuses 2 [])) (refuses 14 [])
-        ≡ on3 (pick f (gives (taken pos end k ∷ (pos + taken pos end k) ∷ end ∷ [])) (refuses 14 [])) (exactly k)
+    go : (f b : Bool) → ltb (end - pos) k ≡ b
+        → pick f (pick b (refuses 2 []) (gives [])) (refuses 14 [])
+        ≡ on3 (pick f (gives (taken pos end k ∷ (pos + taken pos end k) ∷ end ∷ [])) (refuses 14 [])) (λ n p e. allSaid n k)
     go false b e = refl
-    go true true e =
-        let h : k ≤ end - pos = leb-true k (end - pos) e in
+    go true false e =
+        let h : k ≤ end - pos = ltb-false (end - pos) k e in
         let n : min k (end - pos) ≡ k = omega arith in
         let m : k ≤ k = omega arith in
         rw (n, le-ltb k k m)
-    go true false e =
-        let h : end - pos < k = leb-false k (end - pos) e in
+    go true true e =
+        let h : end - pos < k = ltb-true (end - pos) k e in
         let n : min k (end - pos) < k = omega arith in
         rw (lt-ltb (min k (end - pos)) k n)
 
@@ -164,18 +160,18 @@ told g (refuses n l) = g
 -- an exact read stands where the read stands
 pub exact-stands : (image : List ℕ) (g : Range) (k : ℕ) → exactRange image g k ≡ told g (readSaid image (g .«byte_pos») (g .end) k)
 unfolding exactPos readSaid told
-exact-stands image g k = go (fine image (g .end)) (leb k (g .end - g .«byte_pos»)) refl
+exact-stands image g k = go (fine image (g .end)) (ltb (g .end - g .«byte_pos») k) refl
   where
-    go : (f b : Bool) → leb k (g .end - g .«byte_pos») ≡ b
-        → standing g (pick f (pick b (g .«byte_pos» + k) (max (g .«byte_pos») (g .end))) (g .«byte_pos»))
+    go : (f b : Bool) → ltb (g .end - g .«byte_pos») k ≡ b
+        → standing g (pick f (pick b (max (g .«byte_pos») (g .end)) (g .«byte_pos» + k)) (g .«byte_pos»))
         ≡ told g (pick f (gives (taken (g .«byte_pos») (g .end) k ∷ (g .«byte_pos» + taken (g .«byte_pos») (g .end) k) ∷ g .end ∷ [])) (refuses 14 []))
     go false b e = refl
-    go true true e =
-        let h : k ≤ g .end - g .«byte_pos» = leb-true k (g .end - g .«byte_pos») e in
+    go true false e =
+        let h : k ≤ g .end - g .«byte_pos» = ltb-false (g .end - g .«byte_pos») k e in
         let n : min k (g .end - g .«byte_pos») ≡ k = omega arith in
         rw n
-    go true false e =
-        let h : g .end - g .«byte_pos» < k = leb-false k (g .end - g .«byte_pos») e in
+    go true true e =
+        let h : g .end - g .«byte_pos» < k = ltb-true (g .end - g .«byte_pos») k e in
         let m : g .«byte_pos» + min k (g .end - g .«byte_pos») ≡ max (g .«byte_pos») (g .end) = omega arith in
         rw m
 

@@ -1,6 +1,6 @@
 -- An answer is known from what it says, by an inverse of its map into Said: so a promise on what is said allows one answer.
 use Prim.Native.Nat.{ℕ}
-use mathlib.Core.Path.{_≡_, refl, ap}
+use mathlib.Core.Path.{_≡_, refl, sym, ap, _∙_}
 use mathlib.Core.List.{List}
 use lib.ListN.{getD}
 use Rattle.refusal.specs.Said.{Said, gives, absent, refuses}
@@ -16,8 +16,10 @@ use Rattle.eeprom.specs.declared.Reading.{Reading}
 use Rattle.eeprom.specs.declared.Reading.the-variants as reading
 use Rattle.eeprom.specs.declared.Exact.{Exact}
 use Rattle.eeprom.specs.declared.Exact.the-variants as exact
+use Rattle.eeprom.specs.declared.ExactRead.{ExactRead}
 use Rattle.eeprom.specs.declared.Writing.{Writing}
 use Rattle.eeprom.specs.declared.Writing.the-variants as writing
+use Rattle.eeprom.specs.declared.WordsWritten.{WordsWritten}
 
 -- the range whose position is the list's value at i, and whose end follows it
 abbrev at : List ℕ → ℕ → ℕ → Range
@@ -83,6 +85,10 @@ exact-back (exact.No x) = ap exact.No (back x)
 pub exact-unique : (a b : Exact) (s : Said) → saidExact a ≡ s → saidExact b ≡ s → a ≡ b
 exact-unique = unique saidExact exactOf exact-back
 
+-- with the range beside it
+pub exact-read-unique : (a b : ExactRead) (s : Said) (g : Range) → (saidExact (a .answer) ≡ s) × (a .range ≡ g) → (saidExact (b .answer) ≡ s) × (b .range ≡ g) → a ≡ b
+exact-read-unique a b s g p q i = record { answer = exact-unique (a .answer) (b .answer) s (p .0) (q .0) i; range = (p .1 ∙ sym (q .1)) i }
+
 -- ---- a write
 
 unfoldable writingOf : Said → Writing
@@ -97,3 +103,7 @@ writing-back (writing.No x) = ap writing.No (back x)
 
 pub writing-unique : (a b : Writing) (s : Said) → saidWriting a ≡ s → saidWriting b ≡ s → a ≡ b
 writing-unique = unique saidWriting writingOf writing-back
+
+-- with the range beside it
+pub words-written-unique : (a b : WordsWritten) (s : Said) (g : Range) → (saidWriting (a .answer) ≡ s) × (a .range ≡ g) → (saidWriting (b .answer) ≡ s) × (b .range ≡ g) → a ≡ b
+words-written-unique a b s g p q i = record { answer = writing-unique (a .answer) (b .answer) s (p .0) (q .0) i; range = (p .1 ∙ sym (q .1)) i }

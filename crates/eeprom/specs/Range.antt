@@ -58,13 +58,17 @@ readSaid image pos end k =
 unfoldable pub readBuf : List ℕ → ℕ → ℕ → List ℕ → List ℕ
 readBuf image pos end buf = pick (fine image end) (filled image pos (taken pos end (length buf)) buf) buf
 
--- an exact read of k bytes: what does not fit is refused
-unfoldable pub exactSaid : List ℕ → ℕ → ℕ → ℕ → Said
-exactSaid image pos end k = pick (fine image end) (pick (leb k (end - pos)) (gives []) (refuses 2 [])) (refuses 14 [])
+-- what an exact read of k bytes says that took n: what does not fit is refused (RULES, refusals: 2)
+abbrev pub allSaid : ℕ → ℕ → Said
+allSaid n k = pick (ltb n k) (refuses 2 []) (gives [])
 
--- where it stands after that: behind what it read; refused with 2 at the end, or where it was if that is past the end
+-- what an exact read of k bytes says (RULES, range): no byte always succeeds
+unfoldable pub exactSaid : List ℕ → ℕ → ℕ → ℕ → Said
+exactSaid image pos end k = pick (fine image end) (allSaid (end - pos) k) (refuses 14 [])
+
+-- where it stands after that: behind what it read; refused with 2 at the end, or where it was if that is past the end (RULES, refusals)
 unfoldable pub exactPos : List ℕ → ℕ → ℕ → ℕ → ℕ
-exactPos image pos end k = pick (fine image end) (pick (leb k (end - pos)) (pos + k) (max pos end)) pos
+exactPos image pos end k = pick (fine image end) (pick (ltb (end - pos) k) (max pos end) (pos + k)) pos
 
 -- the range after it
 abbrev pub exactRange : List ℕ → Range → ℕ → Range
@@ -74,7 +78,7 @@ exactRange image g k = standing g (exactPos image (g .«byte_pos») (g .end) k)
 abbrev pub exactBuf : List ℕ → ℕ → ℕ → List ℕ → List ℕ
 exactBuf = readBuf
 
--- ---- writing: m words of the data, laid from the word that contains the position on
+-- ---- writing: m words of the data, laid from the word that contains the position on (RULES, range)
 
 -- how many words hold n bytes
 abbrev pub wordsFor : ℕ → ℕ
@@ -100,7 +104,7 @@ wordsIn size pos = size / 2 - pos / 2
 unfoldable pub wordsWritten : ℕ → ℕ → ℕ → ℕ → ℕ
 wordsWritten size pos end k = min (wordsAsked pos end k) (wordsIn size pos)
 
--- a write of k bytes says how many bytes it wrote, the padding counted; fewer words than are asked for are refused
+-- a write of k bytes says how many bytes it wrote, the padding counted; where m is less than the words asked for, it is refused (RULES, refusals: 7)
 unfoldable pub writeIn : ℕ → ℕ → ℕ → ℕ → Said
 writeIn size pos end k =
     pick (ltb (wordsWritten size pos end k) (wordsAsked pos end k)) (refuses 7 []) (gives (2 * wordsWritten size pos end k ∷ []))

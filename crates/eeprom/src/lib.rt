@@ -9,11 +9,9 @@ ghost use mathlib.Core.Path.{_≡_};
 ghost use mathlib.Core.List.{[], _∷_};
 ghost use Prim.Native.Nat.{_+_, _-_, _*_, _%_, _≤_, _<_};
 ghost use lib.ListN.{length, getD};
-ghost use lib.Dec.{ltb};
-ghost use Rattle.refusal.specs.Said.{gives, refuses, pick};
 ghost use Rattle.wire.specs.Bytes.{byteAt, le16, le32, span, filled, overlay};
 ghost use Rattle.eeprom.specs.Image.{endMost, longMost, farMost, within, fine, widthOf, chunkOf};
-ghost use Rattle.eeprom.specs.Range.{newSaid, startSaid, byteIn, byteSaid, skipSaid, readSaid, readBuf, exactSaid, exactRange, exactBuf, wordsWritten, wordsLaid, writeIn, writeSaid, writeRange, writeImage};
+ghost use Rattle.eeprom.specs.Range.{newSaid, startSaid, byteIn, byteSaid, skipSaid, readSaid, readBuf, allSaid, exactSaid, exactRange, exactBuf, wordsWritten, wordsLaid, writeIn, writeSaid, writeRange, writeImage};
 ghost use Rattle.eeprom.specs.Answers.{saidRange, saidByte, saidReading, saidExact, saidWriting};
 
 // The width of a chunk.
@@ -115,6 +113,7 @@ fn copy_out(image: &[u8], pos: usize, n: usize, buf: &mut [u8])
 }
 
 // The chunk from a word on: its bytes at the front of eight, the others 0. Past the image a byte reads as 0xFF.
+// This and the three readers after it are total: they take an image of any length and refuse nothing. The calls on a range refuse one of more than IMAGE_MOST bytes (14).
 pub fn read_chunk(image: &[u8], start_word: u32, chunk: Chunk) -> [u8; 8]
     ensures { λ r. ⌜ r ≡ chunkOf (now (image .entry)) «start_word» (widthOf chunk) ⌝ }
 {
@@ -306,7 +305,7 @@ fn byte_in(image: &[u8], chunk: Chunk, pos: Pos, end: Pos) -> ByteAnswer
 
 // Whether n bytes are all of k.
 fn all_of(n: usize, k: usize) -> Exact
-    ensures { λ r. ⌜ saidExact r ≡ pick (ltb n k) (refuses 2 []) (gives []) ⌝ }
+    ensures { λ r. ⌜ saidExact r ≡ allSaid n k ⌝ }
 {
     if n < k {
         Exact::No(Refusal::Overrun)
