@@ -3,7 +3,7 @@
  * Each call answers a code:
  *
  *     0        MOREL_GIVES: the answer's values stand at the front of the row `out`
- *     1 to 14  a refusal, by its number
+ *     1 to 14  a refusal, by its number; more numbers may be added
  *     255      MOREL_ABSENT: there is no such thing, which is an answer and no refusal
  *
  * and puts numbers over the front of the row that is lent to it, as many as the row has room for. What stands behind them stays, and so does the
@@ -87,6 +87,11 @@ uint8_t morel_size(const uint8_t *image, size_t image_len, uint64_t *out, size_t
 
 /* Where the first category of this number (10, 30, 40, 41, 42, 50, 51 or 60) starts and ends, in bytes: MOREL_RANGE. Absent. Refuses 14, 1. */
 uint8_t morel_category(const uint8_t *image, size_t image_len, uint16_t number, uint64_t *out, size_t out_len);
+
+/* Whether all that the search for this category looks at, its headers and the end mark, and the category that it finds lie in the image, 1 or 0:
+ * MOREL_NUMBER. 0 says that bytes are missing, so that what is read of the category may be 0xFF bytes from past the end. Refuses as
+ * morel_category. */
+uint8_t morel_category_inside(const uint8_t *image, size_t image_len, uint16_t number, uint64_t *out, size_t out_len);
 
 /* The category General: MOREL_GENERAL. Refuses 14, 1; 3 where there is none; 2 where it is short; 5 for undefined flag bits. */
 uint8_t morel_general(const uint8_t *image, size_t image_len, uint64_t *out, size_t out_len);
@@ -192,6 +197,11 @@ static inline uint8_t morel_category_checked(const uint8_t *image, size_t image_
     return morel_category(morel_bytes(image), image_len, number, morel_row(out), out_len);
 }
 
+static inline uint8_t morel_category_inside_checked(const uint8_t *image, size_t image_len, uint16_t number, uint64_t *out, size_t out_len) {
+    if (morel_lacking(image, image_len) || morel_lacking(out, out_len)) return MOREL_BAD_ARGUMENT;
+    return morel_category_inside(morel_bytes(image), image_len, number, morel_row(out), out_len);
+}
+
 static inline uint8_t morel_general_checked(const uint8_t *image, size_t image_len, uint64_t *out, size_t out_len) {
     if (morel_lacking(image, image_len) || morel_lacking(out, out_len)) return MOREL_BAD_ARGUMENT;
     return morel_general(morel_bytes(image), image_len, morel_row(out), out_len);
@@ -266,6 +276,7 @@ static inline uint8_t morel_spread_checked(uint8_t *areas, size_t areas_len, siz
 #define morel_mailbox_config morel_mailbox_config_checked
 #define morel_size morel_size_checked
 #define morel_category morel_category_checked
+#define morel_category_inside morel_category_inside_checked
 #define morel_general morel_general_checked
 #define morel_find_string morel_find_string_checked
 #define morel_device_name morel_device_name_checked

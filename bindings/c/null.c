@@ -41,6 +41,9 @@ static void calls(void) {
     CHECK(morel_category(NULL, 0, 0, NULL, 0) == REACHED);
     CHECK(morel_category(NULL, 1, 0, row, 2) == MOREL_BAD_ARGUMENT);
     CHECK(morel_category(bytes, 2, 0, NULL, 1) == MOREL_BAD_ARGUMENT);
+    CHECK(morel_category_inside(NULL, 0, 0, NULL, 0) == REACHED);
+    CHECK(morel_category_inside(NULL, 1, 0, row, 2) == MOREL_BAD_ARGUMENT);
+    CHECK(morel_category_inside(bytes, 2, 0, NULL, 1) == MOREL_BAD_ARGUMENT);
     CHECK(morel_general(NULL, 0, NULL, 0) == REACHED);
     CHECK(morel_general(NULL, 1, row, 2) == MOREL_BAD_ARGUMENT);
     CHECK(morel_general(bytes, 2, NULL, 1) == MOREL_BAD_ARGUMENT);
@@ -95,6 +98,7 @@ int main(void) {
 #undef morel_mailbox_config
 #undef morel_size
 #undef morel_category
+#undef morel_category_inside
 #undef morel_general
 #undef morel_find_string
 #undef morel_device_name
@@ -146,6 +150,12 @@ uint8_t morel_size(const uint8_t *image, size_t image_len, uint64_t *out, size_t
 }
 
 uint8_t morel_category(const uint8_t *image, size_t image_len, uint16_t number, uint64_t *out, size_t out_len) {
+    see(image, image_len); see(out, out_len * sizeof *out);
+    (void)number;
+    return REACHED;
+}
+
+uint8_t morel_category_inside(const uint8_t *image, size_t image_len, uint16_t number, uint64_t *out, size_t out_len) {
     see(image, image_len); see(out, out_len * sizeof *out);
     (void)number;
     return REACHED;

@@ -135,6 +135,21 @@ static void categories(void) {
     empties[128 + 30 * 4] = 10;
     CHECK(morel_category(empties, 128 + 31 * 4, 10, row, 20) == MOREL_GIVES && IS(row, 252, 252));
 
+    /* all of General lies in the image, and all that is read in vain for sync managers does; less of either with bytes cut off */
+    blank(row, 20);
+    CHECK(morel_category_inside(image, n, 30, row, 20) == MOREL_GIVES && IS(row, 1));
+    blank(row, 20);
+    CHECK(morel_category_inside(image, 161, 30, row, 20) == MOREL_GIVES && IS(row, 0));
+    blank(row, 20);
+    CHECK(morel_category_inside(image, 140, 10, row, 20) == MOREL_GIVES && IS(row, 1));
+    blank(row, 20);
+    CHECK(morel_category_inside(image, n, 41, row, 20) == MOREL_GIVES && IS(row, 1));
+    blank(row, 20);
+    CHECK(morel_category_inside(image, 162, 41, row, 20) == MOREL_GIVES && IS(row, 0));
+    blank(row, 20);
+    CHECK(morel_category_inside(image, n, 11, row, 20) == MOREL_BAD_ARGUMENT && KEPT(row));
+    CHECK(morel_category_inside(too_long, sizeof too_long, 30, row, 20) == MOREL_BAD_ARGUMENT && KEPT(row));
+
     blank(row, 20);
     CHECK(morel_general(image, n, row, 20) == MOREL_GIVES && IS(row, 0, 0, 1, 2, 0x0F, 1, 0, 3, 300, 1, 1, 3, 4, 0x1000));
     blank(row, 20);
@@ -285,6 +300,8 @@ static void null_and_none(void) {
     CHECK(morel_size(NULL, 0, row, 20) == MOREL_GIVES && IS(row, 8388608));
     blank(row, 20);
     CHECK(morel_category(NULL, 0, 30, row, 20) == MOREL_ABSENT && KEPT(row));
+    CHECK(morel_category_inside(NULL, 0, 30, row, 20) == MOREL_GIVES && IS(row, 0));
+    blank(row, 20);
     CHECK(morel_general(NULL, 0, row, 20) == MOREL_NO_CATEGORY && KEPT(row));
     CHECK(morel_find_string(NULL, 0, 1, NULL, 0, row, 20) == MOREL_ABSENT && KEPT(row));
     CHECK(morel_device_name(NULL, 0, NULL, 0, row, 20) == MOREL_ABSENT && KEPT(row));
@@ -321,6 +338,8 @@ static void null_and_some(void) {
     CHECK(morel_size(bytes, 40, NULL, 1) == MOREL_BAD_ARGUMENT);
     CHECK(morel_category(NULL, 1, 30, row, 20) == MOREL_BAD_ARGUMENT);
     CHECK(morel_category(bytes, 40, 30, NULL, 2) == MOREL_BAD_ARGUMENT);
+    CHECK(morel_category_inside(NULL, 1, 30, row, 20) == MOREL_BAD_ARGUMENT);
+    CHECK(morel_category_inside(bytes, 40, 30, NULL, 1) == MOREL_BAD_ARGUMENT);
     CHECK(morel_general(NULL, 1, row, 20) == MOREL_BAD_ARGUMENT);
     CHECK(morel_general(bytes, 40, NULL, 14) == MOREL_BAD_ARGUMENT);
     CHECK(morel_find_string(NULL, 1, 1, bytes, 40, row, 20) == MOREL_BAD_ARGUMENT);

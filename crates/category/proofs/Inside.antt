@@ -16,7 +16,8 @@ use Rattle.eeprom.proofs.Laws.{within-is}
 use Rattle.category.specs.Layout.{markWords, headerWords, typeAt, lengthAt, endMark, wordMost}
 use Rattle.category.specs.Category.{numbers, among, Stepped, done, next, stepped, searched, categorySaid}
 use Rattle.category.specs.First.{Passes, HeaderAt, first, behind, FirstOf}
-use Rattle.category.specs.Inside.{headerEnd, Inside, onward, lastOver, lastFrom, lastHeader, bit, endInside, insideSaid}
+use Rattle.wire.specs.Bytes.{bit}
+use Rattle.category.specs.Inside.{headerEnd, Inside, onward, lastOver, lastFrom, lastHeader, endInside, insideSaid}
 use Rattle.category.proofs.Laws.{step-passes, step-mark, last-step}
 use Rattle.category.proofs.Ends.{reaches, reached-done, search-ends}
 use Rattle.category.proofs.First.{Asked, asked-says, says-asked, unmarked, Answer, found, nowhere, too-far, category-answer, first-found, found-first, first-last}

@@ -2,7 +2,7 @@
 use mathlib.Core.List.{[], _∷_}
 use Rattle.refusal.specs.Said.{Said, gives, absent, saidOf}
 use Rattle.category.specs.Category.{Stepped, done, next}
-use Rattle.category.specs.Inside.{bit}
+use Rattle.wire.specs.Bytes.{bit}
 use Rattle.category.specs.declared.Found.{Found}
 use Rattle.category.specs.declared.Found.the-variants as found
 use Rattle.category.specs.declared.InsideAnswer.{InsideAnswer}

@@ -2,10 +2,10 @@
 -- Definitions only.
 use Prim.Native.Nat.{ℕ, zero, suc, _+_, _*_, _≤_}
 use mathlib.Core.List.{List, [], _∷_}
-use mathlib.Core.Bool.{Bool}
 use lib.ListN.{length, getD}
 use lib.Dec.{leb, eqb}
 use Rattle.refusal.specs.Said.{Said, gives, absent, refuses, pick}
+use Rattle.wire.specs.Bytes.{bit}
 use Rattle.category.specs.Layout.{firstHeader, markWords, headerWords, typeAt, endMark, wordMost}
 use Rattle.category.specs.Category.{Stepped, done, next, stepped, categorySaid}
 use Rattle.category.specs.First.{HeaderAt, FirstOf}
@@ -38,10 +38,6 @@ lastFrom = lastOver (suc wordMost)
 -- .. the search for a number
 unfoldable pub lastHeader : List ℕ → ℕ → ℕ
 lastHeader image number = lastFrom image number firstHeader 0
-
--- 1 or 0
-abbrev pub bit : Bool → ℕ
-bit b = pick b 1 0
 
 -- the answer, where the search ended at the header at word w with this: the end of what was looked at is compared, and a refusal stays
 unfoldable pub endInside : List ℕ → ℕ → Said → Said

@@ -26,10 +26,10 @@ use Rattle.refusal.specs.declared.Refusal.the-variants.{
   NoRoom,
   BadArgument,
 }
-use Rattle.sii.specs.General.{bit}
 use Rattle.created_frame.specs.declared.Builder.{Builder}
 use Rattle.pdu.specs.Pdu.{frameHeaderBytes}
 use Rattle.pdu.specs.Answers.{headerSaid}
+use Rattle.wire.specs.Bytes.{bit}
 use Rattle.wire.proofs.Laws.{laid-none}
 use Rattle.export.specs.Told.{codeOf, rowOver, stateOver, bytesOver, headerTold}
 

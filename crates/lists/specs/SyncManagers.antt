@@ -7,7 +7,8 @@ use Rattle.refusal.specs.Said.{pick}
 use Rattle.category.specs.Numbers as numbers
 use Rattle.category.specs.Category.{categorySaid}
 use Rattle.sii.specs.Layout.{field}
-use Rattle.sii.specs.General.{bit, listed}
+use Rattle.wire.specs.Bytes.{bit}
+use Rattle.sii.specs.General.{listed}
 use Rattle.lists.specs.Layout.{smBytes, physicalStartAddress, smLength, controlRegister, mailboxMode, directionLast, ecatEvent, dlsUserEvent, watchdog, enableSyncM, enableBelow, syncMType, syncMTypeLast, mailboxWrite, mailboxRead, processDataWrite, processDataRead}
 use Rattle.lists.specs.Records.{Item, one, none, bad, Listed, records, inCategory}
 use Rattle.lists.specs.declared.SyncManager.{SyncManager}

@@ -42,13 +42,14 @@ use eeprom::Chunk;
 use eeprom::byte_of;
 use eeprom::word_of;
 use refusal::Refusal;
+use wire::flag;
 ghost use mathlib.Core.Path.{_≡_};
 ghost use Prim.Native.Nat.{_+_, _/_, _%_, _≤_, min};
 ghost use lib.ListN.{replicate};
 ghost use Rattle.refusal.specs.Said.{numberOf, valuesOf};
 ghost use Rattle.category.specs.Numbers.{txPdo, rxPdo};
 ghost use Rattle.sii.specs.Layout.{placeMost};
-ghost use Rattle.sii.specs.General.{bit, listed};
+ghost use Rattle.sii.specs.General.{listed};
 ghost use Rattle.lists.specs.Records.{no, holds, records, back};
 ghost use Rattle.lists.specs.SyncManagers.{modeOf, recovered, usageTypeOf, smOf, smValues, smZero, smMost, smAt, smsOf};
 ghost use Rattle.lists.specs.Fmmus.{fmmuMost, usageAdmits, usageAt, usagesOf, exAt, exOf, fmmuAt};
@@ -582,11 +583,4 @@ pub fn pdo_row(p: Pdo) -> [u64; 4]
         p.sync_manager as u64,
         p.bit_len as u64,
     ]
-}
-
-// 1 where the test holds.
-fn flag(b: bool) -> u64
-    ensures { λ r. ⌜ r ≡ bit b ⌝ }
-{
-    if b { 1 } else { 0 }
 }

@@ -175,6 +175,7 @@ module _ {M : Type 1} (𝓤 : URA M) (H : Heap 𝓤) (A : Atoms 𝓤) (mem : Mem
     «export::read_out::morel_mailbox_config» = λ κs a g r s ws vs. two 𝓤 (λ p q p′ q′. (same p q, ap (λ l. (tt, (l, tt))) (same p′ q′)));
     «export::read_out::morel_size» = λ κs a g r s ws vs. two 𝓤 (λ p q p′ q′. (same p q, ap (λ l. (tt, (l, tt))) (same p′ q′)));
     «export::read_out::morel_category» = λ κs a g r s ws vs. two 𝓤 (λ p q p′ q′. (same p q, ap (λ l. (tt, (tt, (l, tt)))) (same p′ q′)));
+    «export::read_out::morel_category_inside» = λ κs a g r s ws vs. two 𝓤 (λ p q p′ q′. (same p q, ap (λ l. (tt, (tt, (l, tt)))) (same p′ q′)));
     «export::read_out::morel_general» = λ κs a g r s ws vs. two 𝓤 (λ p q p′ q′. (same p q, ap (λ l. (tt, (l, tt))) (same p′ q′)));
     «export::text::morel_find_string» = λ κs a g r s ws vs. three 𝓤 (λ p q p′ q′ p″ q″. (same p q, ap₂ (λ b l. (tt, (tt, (b, (l, tt))))) (same p′ q′) (same p″ q″)));
     «export::text::morel_device_name» = λ κs a g r s ws vs. three 𝓤 (λ p q p′ q′ p″ q″. (same p q, ap₂ (λ b l. (tt, (b, (l, tt)))) (same p′ q′) (same p″ q″)));

@@ -211,6 +211,7 @@ module _ {M : Type 1} (𝓤 : URA M) (H : Heap 𝓤) (A : Atoms 𝓤) (mem : Mem
     pub «export::read_out::morel_mailbox_config» : Whole of-export.read_out.morel_mailbox_config.ended of-export.read_out.morel_mailbox_config.clauses
     pub «export::read_out::morel_size» : Whole of-export.read_out.morel_size.ended of-export.read_out.morel_size.clauses
     pub «export::read_out::morel_category» : Whole of-export.read_out.morel_category.ended of-export.read_out.morel_category.clauses
+    pub «export::read_out::morel_category_inside» : Whole of-export.read_out.morel_category_inside.ended of-export.read_out.morel_category_inside.clauses
     pub «export::read_out::morel_general» : Whole of-export.read_out.morel_general.ended of-export.read_out.morel_general.clauses
     pub «export::text::morel_find_string» : Whole of-export.text.morel_find_string.ended of-export.text.morel_find_string.clauses
     pub «export::text::morel_device_name» : Whole of-export.text.morel_device_name.ended of-export.text.morel_device_name.clauses

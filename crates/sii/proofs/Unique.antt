@@ -7,7 +7,8 @@ use lib.ListN.{getD}
 use lib.Dec.{eqb}
 use Rattle.refusal.specs.Said.{Said, gives, absent, refuses}
 use Rattle.refusal.proofs.Unique.{unique, refusalOf, back}
-use Rattle.sii.specs.General.{bit, generalValues}
+use Rattle.wire.specs.Bytes.{bit}
+use Rattle.sii.specs.General.{generalValues}
 use Rattle.sii.specs.Answers.{saidAlias, saidSet, saidSize, saidIdentity, saidMailbox, saidFound, saidGeneral, saidWord, saidPorts}
 use Rattle.sii.specs.declared.SiiGeneral.{SiiGeneral}
 use Rattle.sii.specs.declared.AliasAnswer.{AliasAnswer}

@@ -1,10 +1,11 @@
 -- The category General: RULES, read-out, and types.rs, `SiiGeneral`; beside it two fields by ETG2010's places. Definitions only.
 use Prim.Native.Nat.{ℕ, _+_, _/_, _%_}
 use mathlib.Core.List.{List, [], _∷_}
-use mathlib.Core.Bool.{Bool, true, false, _&&_}
+use mathlib.Core.Bool.{Bool, _&&_}
 use lib.ListN.{getD}
 use lib.Dec.{leb, ltb}
 use Rattle.refusal.specs.Said.{Said, gives, absent, refuses, pick, on2}
+use Rattle.wire.specs.Bytes.{bit}
 use Rattle.category.specs.Numbers as numbers
 use Rattle.category.specs.Category.{categorySaid}
 use Rattle.sii.specs.Layout.{
@@ -70,10 +71,6 @@ generalOf image p = record {
 -- no undefined bit stands in the CoE details, nor in the flags
 unfoldable pub generalAdmits : SiiGeneral → Bool
 generalAdmits g = ltb (g .«coe_details») coeBelow && ltb (g .flags) flagsBelow
-
-abbrev pub bit : Bool → ℕ
-bit true = 1
-bit false = 0
 
 abbrev pub generalValues : SiiGeneral → List ℕ
 generalValues g =

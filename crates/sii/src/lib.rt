@@ -45,6 +45,7 @@ use eeprom::image_within;
 use eeprom::long_of;
 use eeprom::word_of;
 use refusal::Refusal;
+use wire::flag;
 use wire::lay;
 ghost use mathlib.Core.Path.{_≡_};
 ghost use mathlib.Core.List.{[], _∷_};
@@ -53,7 +54,7 @@ ghost use lib.ListN.{length};
 ghost use Rattle.refusal.specs.Said.{saidOf};
 ghost use Rattle.sii.specs.Layout.{word, placeMost, portStatusLast, physicalPort, physicalMemoryAddress};
 ghost use Rattle.sii.specs.Fixed.{aliasSaid, identityOf, identityValues, identitySaid, mailboxOf, mailboxValues, mailboxSaid, hasMailbox, sizeSaid, checksumEnd, withAlias, withChecksum, setSaid, setImage};
-ghost use Rattle.sii.specs.General.{bit, listed, generalOf, generalValues, generalAdmits, generalIn, generalFound, generalSaid, portsOf, portValues, wordIn, generalWord, portsSaid, addressSaid};
+ghost use Rattle.sii.specs.General.{listed, generalOf, generalValues, generalAdmits, generalIn, generalFound, generalSaid, portsOf, portValues, wordIn, generalWord, portsSaid, addressSaid};
 ghost use Rattle.sii.specs.Answers.{saidAlias, saidSet, saidSize, saidIdentity, saidMailbox, saidFound, saidGeneral, saidWord, saidPorts};
 
 // The configured station alias.
@@ -480,11 +481,4 @@ fn wide16(x: u16) -> u64
     ensures { λ r. ⌜ r ≡ x ⌝ }
 {
     x as u64
-}
-
-// 1 where the test holds.
-fn flag(b: bool) -> u64
-    ensures { λ r. ⌜ r ≡ bit b ⌝ }
-{
-    if b { 1 } else { 0 }
 }

@@ -1,5 +1,6 @@
 -- The call in one statement, from its contract alone: the rule goes out in one of four ways, and each fixes the answer and what is true of the arguments.
 use mathlib.Core.Path.{_≡_, refl, sym, ap, _∙_}
+use mathlib.Core.Logic.{_↔_}
 use mathlib.Core.Bool.{true, false, false≢true}
 use mathlib.Core.List.{List, [], _∷_}
 use Prim.Native.Nat.{ℕ, _+_, _/_, _≤_, _<_}
@@ -20,16 +21,16 @@ use Rattle.spread.specs.declared.SpreadAnswer.the-variants.{Last, No}
 use Rattle.spread.specs.Row.{addressEnd, Run, stopped, padded, Outcome}
 use Rattle.spread.specs.Answers.{saidLast, Promised}
 use Rattle.spread.specs.Theorem.{Spreads}
-use Rattle.spread.specs.Demand.{Exactly, Bounds, Reaches, Cut, Demand3}
+use Rattle.spread.specs.Demand.{Bounds, Reaches, Cut, Demand3}
 use Rattle.spread.proofs.Laws.{law, bounds-lawful, out, run, bounds, reaches, fits, ways}
 use Rattle.spread.proofs.Unique.{answer-unique}
 use Rattle.spread.proofs.Theorem.{ours, room-cut, cut-room, answered-built, unchanged}
 
 -- both hold, or neither does
-both-so : {P Q : Type 0} → P → Q → Exactly P Q
+both-so : {P Q : Type 0} → P → Q → P ↔ Q
 both-so p q = (λ x. q, λ y. p)
 
-neither : {P Q : Type 0} → (P → ⊥) → (Q → ⊥) → Exactly P Q
+neither : {P Q : Type 0} → (P → ⊥) → (Q → ⊥) → P ↔ Q
 neither p q = (λ x. absurd (p x), λ y. absurd (q y))
 
 never : _≡_ {A = ℕ} 0 1 → ⊥
@@ -57,25 +58,25 @@ module _ (row : List ℕ) (size : ℕ) (first : Builder) (index command address 
       (room-cut row size first index command address image f))
       (met .0)
 
-  is-bad : Way → Exactly (r .answer ≡ No BadArgument) (Within → ⊥)
+  is-bad : Way → (r .answer ≡ No BadArgument) ↔ (Within → ⊥)
   is-bad (bad e n) = both-so e n
   is-bad (past e b p) = neither (λ f. never cc) (λ n. n b)
   is-bad (lacks e b a n) = neither (λ f. never cc) (λ n. n b)
   is-bad (lasts k e b a c) = neither (λ f. never cc) (λ n. n b)
 
-  is-past : Way → Exactly (r .answer ≡ No Address) (Within × (addressEnd < address + length image))
+  is-past : Way → (r .answer ≡ No Address) ↔ (Within × (addressEnd < address + length image))
   is-past (bad e n) = neither (λ f. never cc) (λ h. n (h .0))
   is-past (past e b p) = both-so e (b, p)
   is-past (lacks e b a n) = neither (λ f. never cc) (λ h. omega (arith, h .1))
   is-past (lasts k e b a c) = neither (λ f. never cc) (λ h. omega (arith, h .1))
 
-  has-no-room : Way → Exactly (r .answer ≡ No NoRoom) (Within × Reaches address image × ((ps : List Piece) → Cut row size first image ps → ⊥))
+  has-no-room : Way → (r .answer ≡ No NoRoom) ↔ (Within × Reaches address image × ((ps : List Piece) → Cut row size first image ps → ⊥))
   has-no-room (bad e n) = neither (λ f. never cc) (λ h. n (h .0))
   has-no-room (past e b p) = neither (λ f. never cc) (λ h. omega (arith, h .1))
   has-no-room (lacks e b a n) = both-so e (b, a, n)
   has-no-room (lasts k e b a c) = neither (λ f. never cc) (λ h. h .2 _ c)
 
-  is-answered : Way → Exactly ((k : ℕ) × (r .answer ≡ Last k)) (Within × Reaches address image × ((ps : List Piece) × Cut row size first image ps))
+  is-answered : Way → ((k : ℕ) × (r .answer ≡ Last k)) ↔ (Within × Reaches address image × ((ps : List Piece) × Cut row size first image ps))
   is-answered (bad e n) = neither (λ f. let g = f .1 in never cc) (λ h. n (h .0))
   is-answered (past e b p) = neither (λ f. let g = f .1 in never cc) (λ h. omega (arith, h .1))
   is-answered (lacks e b a n) = neither (λ f. let g = f .1 in never cc) (λ h. n (h .2 .0) (h .2 .1))

@@ -1,6 +1,7 @@
 -- THE CALL, in one statement: what holds of its result r and of the row ys as it leaves it, for its arguments (RULES, spreading). Nothing here knows how the areas
 -- are filled: the bounds are inequalities, a refusal as 13 is that no permitted cutting exists, and a spreading is what is read back. Definitions only.
 use mathlib.Core.Path.{_≡_}
+use mathlib.Core.Logic.{_↔_}
 use mathlib.Core.Bool.{true}
 use mathlib.Core.List.{List, []}
 use Prim.Native.Nat.{ℕ, _+_, _*_, _/_, _≤_, _<_}
@@ -16,10 +17,6 @@ use Rattle.spread.specs.declared.Spreading.{Spreading}
 use Rattle.spread.specs.declared.SpreadAnswer.the-variants.{Last, No}
 use Rattle.spread.specs.Row.{areasMost, imageMost, commandLeast, commandLast, addressEnd, freeIn, padded}
 use Rattle.spread.specs.Theorem.{Spreads}
-
--- P exactly if Q
-abbrev pub Exactly : Type 0 → Type 0 → Type 0
-Exactly P Q = (P → Q) × (Q → P)
 
 -- what is not refused as 14: whole areas of one size, `total` bytes of them, an image of `given` bytes, a logical command, and a state that fits the first area
 pub record Bounds (total size : ℕ) (first : Builder) (command given : ℕ) : Type 0 where
@@ -43,14 +40,14 @@ Cut row size first image ps = Permitted (freeIn size (first .used)) (length row 
 
 pub record Demand3 (row : List ℕ) (size : ℕ) (first : Builder) (index command address : ℕ) (image : List ℕ) (r : Spreading) (ys : List ℕ) : Type 0 where
   -- it is refused with 14 exactly if the arguments are out of bounds,
-  pub bad-argument : Exactly (r .answer ≡ No BadArgument) (Bounds (length row) size first command (length image) → ⊥)
+  pub bad-argument : (r .answer ≡ No BadArgument) ↔ (Bounds (length row) size first command (length image) → ⊥)
   -- else with 1 exactly if the addresses pass the end,
-  pub past-end : Exactly (r .answer ≡ No Address) (Bounds (length row) size first command (length image) × (addressEnd < address + length image))
+  pub past-end : (r .answer ≡ No Address) ↔ (Bounds (length row) size first command (length image) × (addressEnd < address + length image))
   -- else with 13 exactly if no permitted cutting exists;
-  pub no-room : Exactly (r .answer ≡ No NoRoom)
+  pub no-room : (r .answer ≡ No NoRoom) ↔
       (Bounds (length row) size first command (length image) × Reaches address image × ((ps : List Piece) → Cut row size first image ps → ⊥))
   -- else, exactly if one does, an area's number is answered,
-  pub answered : Exactly ((k : ℕ) × (r .answer ≡ Last k))
+  pub answered : ((k : ℕ) × (r .answer ≡ Last k)) ↔
       (Bounds (length row) size first command (length image) × Reaches address image × ((ps : List Piece) × Cut row size first image ps))
   -- and the image is spread, with that area the last, where the first area is as our builder left it
   pub spreads : (olds : List Pdu) (k : ℕ) → Ours olds (take size row) first → r .answer ≡ Last k
