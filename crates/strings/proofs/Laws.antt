@@ -8,7 +8,7 @@ use mathlib.Core.List.{List, [], _∷_, _++_}
 use mathlib.Core.Bool.{Bool, true, false}
 use lib.ListN.{length, getD, set, length-append}
 use lib.Dec.{eqb, ltb, leb}
-use borrow.Author.Tests.{lt-ltb, le-ltb, le-leb, lt-leb, eq-eqb, ne-eqb, ltb-true, ltb-false, leb-true, leb-false}
+use borrow.Author.Tests.{lt-ltb, le-ltb, eq-eqb, ne-eqb, ltb-true, ltb-false, leb-true, leb-false}
 use Rattle.refusal.specs.Said.{Said, gives, absent, refuses, on2, on3, pick}
 use Rattle.refusal.proofs.Tests.{both}
 use Rattle.wire.specs.Bytes.{byteAt, span, overlay}
@@ -16,6 +16,7 @@ use Rattle.wire.proofs.Laws.{span-add, length-overlay, overlay-next, overlay-no
 use Rattle.wire.proofs.Stretch.{overlay-one}
 use Rattle.eeprom.specs.Image.{endMost, within, fine}
 use Rattle.eeprom.specs.Range.{byteIn, byteSaid, exactSaid}
+use Rattle.eeprom.proofs.Laws.{exact-gives, exact-none, exact-refuses}
 use Rattle.category.specs.Numbers.{strings}
 use Rattle.category.specs.Category.{categorySaid}
 use Rattle.strings.specs.Strings.{stringPast, passedOne, passed, onExact, fitted, stringHere, stringBehind, stringIn, soughtAt, ascii, shown, textSaid, roomMost, fits, bounded, textFor, lengthSaid, roomAfter}
@@ -30,15 +31,19 @@ past-not s count h = le-ltb count s (omega arith)
 
 -- ---- bytes that are read exactly
 
--- an exact read of n bytes gives exactly if there are no fewer before the end
+-- an exact read of n bytes gives if there are no fewer before the end, and else refuses
+exact-said : (image : List ℕ) (pos end n : ℕ) → fine image end ≡ true → n ≤ end - pos → exactSaid image pos end n ≡ gives []
+exact-said image pos end zero f h = exact-none image pos end f .0
+exact-said image pos end (suc n) f h = exact-gives image pos end (suc n) f (omega arith) .0
+
 module _ (image : List ℕ) (pos end n : ℕ) (f : fine image end ≡ true) (s : Said) where
   exact-fits : n ≤ end - pos → onExact (exactSaid image pos end n) s ≡ s
-  unfolding onExact exactSaid
-  exact-fits h = rw (f, le-leb n (end - pos) h)
+  unfolding onExact
+  exact-fits h = rw (exact-said image pos end n f h)
 
   exact-short : end - pos < n → onExact (exactSaid image pos end n) s ≡ refuses 2 []
-  unfolding onExact exactSaid
-  exact-short h = rw (f, lt-leb n (end - pos) h)
+  unfolding onExact
+  exact-short h = rw (exact-refuses image pos end n f h .0)
 
 -- a string that is longer than the room, one that fits it, and one that its category cuts
 module _ (image : List ℕ) (k n pos end : ℕ) where

@@ -31,7 +31,7 @@ passed (suc s) image pos end = on2 (passedOne image pos end) (passed s image)
 unfoldable pub onExact : Said → Said → Said
 onExact (gives l) s = s
 onExact absent s = absent
-onExact (refuses n v) s = refuses n []
+onExact (refuses n v) s = refuses n v
 
 -- n bytes from pos on, for a room of k: compared with the room, then read exactly
 unfoldable pub fitted : List ℕ → ℕ → ℕ → ℕ → ℕ → Said
