@@ -1,4 +1,5 @@
--- Where the fields of the records lie that the SII's lists are made of. Nothing else says an offset. Definitions only.
+-- Where the fields of the records lie that the SII's lists are made of. Nothing else says an offset but
+-- src/layout.rt, once and under the same name. Definitions only.
 use Prim.Native.Nat.{ℕ}
 use Rattle.sii.specs.Layout.{Field, byte, word}
 

@@ -1,4 +1,5 @@
--- Where the fields of the SII's fixed area and of its category General lie. Nothing else says an offset. Definitions only.
+-- Where the fields of the SII's fixed area and of its category General lie. Nothing else says an offset but
+-- src/layout.rt, once and under the same name. Definitions only.
 use Prim.Native.Nat.{ℕ, _+_, _*_}
 use mathlib.Core.List.{List}
 use Rattle.wire.specs.Bytes.{byteAt, le16, le32}
