@@ -279,7 +279,8 @@ MOVE_PASSES = "a move passes 65,535"
 END_ABOVE = "the range ends above 65,535"
 ABSENT = "absent"
 
-SOUGHT = {"general": (30,), "sms": (41,), "fmmus": (40,), "fmmuex": (42,),
+SOUGHT = {"general": (30,), "sms": (41,), "usages": (41,), "fmmus": (40,),
+          "fmmuex": (42,),
           "string": (10,), "name": (30, 10), "desc": (30, 10)}
 
 
