@@ -58,7 +58,7 @@ readSaid image pos end k =
 unfoldable pub readBuf : List ℕ → ℕ → ℕ → List ℕ → List ℕ
 readBuf image pos end buf = pick (fine image end) (filled image pos (taken pos end (length buf)) buf) buf
 
--- what an exact read of k bytes says that took n: what does not fit is refused (RULES, refusals: 2)
+-- what an exact read of k bytes says where there are n: what does not fit is refused (RULES, refusals: 2)
 abbrev pub allSaid : ℕ → ℕ → Said
 allSaid n k = pick (ltb n k) (refuses 2 []) (gives [])
 

@@ -3,29 +3,14 @@ use Prim.Native.Nat.{ℕ, _≤_, _<_}
 use mathlib.Core.Path.{_≡_, refl, sym, ap, _∙_}
 use lib.ListN.{length}
 use mathlib.Core.Bool.{Bool, true, false}
-use mathlib.Core.List.{List, [], _∷_}
+use mathlib.Core.List.{List, []}
 use borrow.Author.Tests.{lt-ltb, le-ltb}
-use types.Run.{OneOf, miss}
+use types.Run.{OneOf}
 use denote.Enum.Declared.{tagOf}
-use Rattle.refusal.specs.Said.{Said, absent, refuses, numberOf, valuesOf, saidOf, pick}
+use Rattle.refusal.specs.Said.{Said, absent, refuses, saidOf, pick}
 use Rattle.refusal.specs.declared.Refusal.{Refusal}
 use Rattle.refusal.proofs.Refusal.{the-type}
-use Rattle.refusal.specs.declared.Refusal.the-variants.{
-  Address,
-  Overrun,
-  NoCategory,
-  StringTooLong,
-  Decode,
-  Capacity,
-  NotWritable,
-  TooLong,
-  NoPort,
-  BadPort,
-  Sum,
-  BadFrame,
-  NoRoom,
-  BadArgument,
-}
+use Rattle.refusal.proofs.Unique.{others, no-values}
 use Rattle.created_frame.specs.declared.Builder.{Builder}
 use Rattle.pdu.specs.Pdu.{frameHeaderBytes}
 use Rattle.pdu.specs.Answers.{headerSaid}
@@ -74,28 +59,7 @@ bit-pick false = refl
 
 -- ---- a refusal
 
--- the places of all but the string that is too long
-abbrev pub others : List ℕ
-others = 0 ∷ 1 ∷ 2 ∷ 4 ∷ 5 ∷ 6 ∷ 7 ∷ 8 ∷ 9 ∷ 10 ∷ 11 ∷ 12 ∷ 13 ∷ []
-
--- .. which have no values
-no-values : (x : Refusal) → OneOf others (tagOf the-type x) → valuesOf x ≡ []
-no-values Address k = refl
-no-values Overrun k = refl
-no-values NoCategory k = refl
-no-values (StringTooLong r s) k = absurd (miss others 3 tt k)
-no-values Decode k = refl
-no-values Capacity k = refl
-no-values NotWritable k = refl
-no-values TooLong k = refl
-no-values NoPort k = refl
-no-values BadPort k = refl
-no-values Sum k = refl
-no-values BadFrame k = refl
-no-values NoRoom k = refl
-no-values BadArgument k = refl
-
--- .. so the row stays
+-- one that is not the string that is too long has no values, so the row stays
 pub row-stays : (x : Refusal) → OneOf others (tagOf the-type x) → (row : List ℕ) → row ≡ rowOver row (saidOf x)
 unfolding rowOver
 row-stays x k row = rw (no-values x k) (sym (laid-none row 0))
