@@ -83,25 +83,32 @@ fn link(x: u16) -> Link {
     if x == 0 { Link::Free } else { Link::To(x) }
 }
 
-// The port of this number, from the number at i on.
-fn port(nums: &[u64], i: u8, number: u8) -> Port {
+// The port with the time and the link that stand behind the number at i.
+fn port(p: Port, nums: &[u64], i: u8) -> Port {
     let k = i as usize;
     let downstream_to = link(word(nums, k + 2));
     Port {
-        active: at(nums, k) == 1,
+        active: p.active,
         dc_receive_time: long(nums, k + 1),
-        number,
+        number: p.number,
         downstream_to,
     }
 }
 
 // P, the first twelve numbers.
 fn ports(nums: &[u64]) -> Ports {
+    let fresh = Ports::new(
+        at(nums, 0) == 1,
+        at(nums, 3) == 1,
+        at(nums, 6) == 1,
+        at(nums, 9) == 1,
+    );
+    let a = fresh.0;
     Ports([
-        port(nums, 0, 0),
-        port(nums, 3, 3),
-        port(nums, 6, 1),
-        port(nums, 9, 2),
+        port(a[0], nums, 0),
+        port(a[1], nums, 3),
+        port(a[2], nums, 6),
+        port(a[3], nums, 9),
     ])
 }
 

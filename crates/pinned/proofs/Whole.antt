@@ -15,9 +15,7 @@ use Rattle.wire.specs.Bytes.{span, filled}
 use Rattle.eeprom.specs.Image.{widthOf, chunkOf}
 use Rattle.eeprom.specs.declared.Chunk.{Chunk}
 use Rattle.eeprom.specs.declared.Chunk.the-variants as chunk
-use Rattle.eeprom.specs.declared.ExactRead.{ExactRead}
-use Rattle.eeprom.specs.declared.WordsWritten.{WordsWritten}
-use Rattle.eeprom.proofs.Unique.{range-unique, byte-unique, reading-unique, exact-unique, writing-unique}
+use Rattle.eeprom.proofs.Unique.{range-unique, byte-unique, reading-unique, exact-read-unique, words-written-unique}
 use Rattle.category.proofs.Unique.{found-unique as category-unique, inside-unique}
 use Rattle.sii.proofs.Unique.{alias-unique, set-unique, identity-unique, mailbox-unique, size-unique, general-unique, found-unique, ports-unique, word-unique}
 use Rattle.setup.proofs.Unique.{pdi-unique, bootstrap-unique, version-unique, checksum-unique}
@@ -73,8 +71,8 @@ module _ {M : Type 1} (𝓤 : URA M) (H : Heap 𝓤) (A : Atoms 𝓤) (mem : Mem
     «eeprom::Range::skip_ahead_bytes» = λ κs a g r s ws vs. one 𝓤 (λ p q. (range-unique r s _ p q, refl));
     «eeprom::Range::read_byte» = λ κs a m g h r s ws vs. one 𝓤 (λ p q. (byte-unique r s _ p q, refl));
     «eeprom::Range::read» = λ κs a m g h r s ws vs. two 𝓤 (λ p q p′ q′. (reading-unique r s _ p q, ap (λ l. (tt, (tt, (tt, (l, tt))))) (same p′ q′)));
-    «eeprom::Range::read_exact» = λ κs a m g h r s ws vs. three 𝓤 (λ p q p′ q′ p″ q″. (ap₂ {C = ExactRead} (λ x y. record { answer = x; range = y }) (exact-unique (r .answer) (s .answer) _ p q) (same p′ q′), ap (λ l. (tt, (tt, (tt, (l, tt))))) (same p″ q″)));
-    «eeprom::Range::write» = λ κs a g r s ws vs. three 𝓤 (λ p q p′ q′ p″ q″. (ap₂ {C = WordsWritten} (λ x y. record { answer = x; range = y }) (writing-unique (r .answer) (s .answer) _ p q) (same p′ q′), ap (λ l. (tt, (l, (tt, tt)))) (same p″ q″)));
+    «eeprom::Range::read_exact» = λ κs a m g h r s ws vs. three 𝓤 (λ p q p′ q′ p″ q″. (exact-read-unique r s _ _ (p, p′) (q, q′), ap (λ l. (tt, (tt, (tt, (l, tt))))) (same p″ q″)));
+    «eeprom::Range::write» = λ κs a g r s ws vs. three 𝓤 (λ p q p′ q′ p″ q″. (words-written-unique r s _ _ (p, p′) (q, q′), ap (λ l. (tt, (l, (tt, tt)))) (same p″ q″)));
     -- ---- category
     «category::category» = λ κs a m g h r s ws vs. one 𝓤 (λ p q. (category-unique r s _ p q, refl));
     «category::category_inside» = λ κs a m g h r s ws vs. one 𝓤 (λ p q. (inside-unique r s _ p q, refl));
