@@ -4,7 +4,7 @@ use mathlib.Core.Path.{ap, sym, _∙_}
 use mathlib.Core.List.{[], _∷_}
 use Rattle.refusal.specs.Said.{gives}
 use Rattle.category.specs.Answers.{saidInside}
-use Rattle.export.proofs.Laws.{told, bit-pick}
+use Rattle.export.proofs.Laws.{told}
 use borrow.Author.Needs.{needs}
 use Rattle.export.proofs.read_out.morel_category_inside.Statement.{statement}
 use Rattle.export.proofs.read_out.morel_category_inside.Tie as tie
@@ -35,7 +35,7 @@ same-length c = search needs
 
 returns : tie.Need-returns
 returns c =
-    told _ _ _ _ _ (ap (λ (n : ℕ). gives (n ∷ [])) (c .before .before .before .before .before .flag .ensures ∙ bit-pick (c .before .before .before .before .before .before .before .t .given .0 .0)) ∙ ap saidInside (sym (c .before .before .before .before .before .before .before .t .given .1)) ∙ c .before .before .before .before .before .before .before .before .before .category-inside .ensures) (c .before .before .given .ensures)
+    told _ _ _ _ _ (ap (λ (n : ℕ). gives (n ∷ [])) (c .before .before .before .before .before .flag .ensures) ∙ ap saidInside (sym (c .before .before .before .before .before .before .before .t .given .1)) ∙ c .before .before .before .before .before .before .before .before .before .category-inside .ensures) (c .before .before .given .ensures)
 
 same-length-2 : tie.Need-same-length-2
 same-length-2 c = search needs
