@@ -86,15 +86,26 @@ fn of_sms(row: &mut [u64], r: SyncManagers) -> Reply {
     listed(row, answer, end)
 }
 
-fn put_usages(row: &mut [u64], k: usize, sms: [SyncManager; 8], n: usize) -> usize {
-    let count = lesser(n, 8);
-    let mut j = k;
-    let mut i = 0;
-    while i < count {
-        j = put(row, j, wide8(usage_type(sms[i])));
-        i += 1;
-    }
-    j
+// What each is for, as a list of FMMUs has its usages: eight, and eight places that are not used.
+fn usages(sms: [SyncManager; 8]) -> [u8; 16] {
+    [
+        usage_type(sms[0]),
+        usage_type(sms[1]),
+        usage_type(sms[2]),
+        usage_type(sms[3]),
+        usage_type(sms[4]),
+        usage_type(sms[5]),
+        usage_type(sms[6]),
+        usage_type(sms[7]),
+        0,
+        0,
+        0,
+        0,
+        0,
+        0,
+        0,
+        0,
+    ]
 }
 
 fn of_usages(row: &mut [u64], r: SyncManagers) -> Reply {
@@ -102,7 +113,7 @@ fn of_usages(row: &mut [u64], r: SyncManagers) -> Reply {
     let n = r.count;
     let sms = r.items;
     let k = put(row, 0, n as u64);
-    let end = put_usages(row, k, sms, n);
+    let end = put_fmmus(row, k, usages(sms), n);
     listed(row, answer, end)
 }
 
