@@ -1,4 +1,4 @@
-/* Each export with good and bad input, held against document 01's bench cases and numbers worked out by hand from its words; then, with the
+/* Each export with good and bad input, held against the bench cases (docs/RULES.md) and numbers worked out by hand from the rules; then, with the
  * names of two files, against recorded requests and the answers that the Rust originals or the independent program gave (docs/DESK.md). */
 #include "morelbarrel.h"
 
@@ -135,6 +135,21 @@ static void categories(void) {
     empties[128 + 30 * 4] = 10;
     CHECK(morel_category(empties, 128 + 31 * 4, 10, row, 20) == MOREL_GIVES && IS(row, 252, 252));
 
+    /* all of General lies in the image, and all that is read in vain for sync managers does; less of either with bytes cut off */
+    blank(row, 20);
+    CHECK(morel_category_inside(image, n, 30, row, 20) == MOREL_GIVES && IS(row, 1));
+    blank(row, 20);
+    CHECK(morel_category_inside(image, 161, 30, row, 20) == MOREL_GIVES && IS(row, 0));
+    blank(row, 20);
+    CHECK(morel_category_inside(image, 140, 10, row, 20) == MOREL_GIVES && IS(row, 1));
+    blank(row, 20);
+    CHECK(morel_category_inside(image, n, 41, row, 20) == MOREL_GIVES && IS(row, 1));
+    blank(row, 20);
+    CHECK(morel_category_inside(image, 162, 41, row, 20) == MOREL_GIVES && IS(row, 0));
+    blank(row, 20);
+    CHECK(morel_category_inside(image, n, 11, row, 20) == MOREL_BAD_ARGUMENT && KEPT(row));
+    CHECK(morel_category_inside(too_long, sizeof too_long, 30, row, 20) == MOREL_BAD_ARGUMENT && KEPT(row));
+
     blank(row, 20);
     CHECK(morel_general(image, n, row, 20) == MOREL_GIVES && IS(row, 0, 0, 1, 2, 0x0F, 1, 0, 3, 300, 1, 1, 3, 4, 0x1000));
     blank(row, 20);
@@ -205,7 +220,9 @@ static void frames(void) {
     CHECK(morel_push_pdu_slice_rest(area, 28, 29, 2, 14, 3, 5, 0, first, 2, s, 10) == MOREL_BAD_ARGUMENT && IS(s, 29, 2, 14, 3));
     CHECK(memcmp(frame, before, 30) == 0);
     CHECK(morel_frame_header(2048, frame, 30) == MOREL_BAD_ARGUMENT && memcmp(frame, before, 30) == 0);
-    CHECK(morel_frame_header(2047, frame, 1) == MOREL_GIVES && frame[0] == 0xFF && frame[1] == 0x10);
+    CHECK(morel_frame_header(2047, frame, 1) == MOREL_BAD_ARGUMENT && memcmp(frame, before, 30) == 0);
+    CHECK(morel_frame_header(2047, frame, 0) == MOREL_BAD_ARGUMENT && memcmp(frame, before, 30) == 0);
+    CHECK(morel_frame_header(2047, frame, 2) == MOREL_GIVES && frame[0] == 0xFF && frame[1] == 0x17);
     memcpy(frame, before, 30);
 
     blank(s, 10);
@@ -263,6 +280,94 @@ static void spreading(void) {
     CHECK(memcmp(three, want, 42) == 0);
     blank(row, 10);
     CHECK(morel_spread(three, 42, 14, 0, 0, 0, 255, 12, 0, bytes, 0, row, 10) == MOREL_GIVES && IS(row, 255, 0));
+}
+
+/* ---- pointers that are null: (NULL, 0) is answered as a slice of no elements, (NULL, n) is 14 and changes nothing */
+
+static void null_and_none(void) {
+    uint64_t row[20];
+    uint8_t room[4] = {9, 9, 9, 9};
+
+    CHECK(morel_crc(NULL, 0) == 0xFF);
+    CHECK(morel_set_station_alias(NULL, 0, 7) == MOREL_NOT_WRITABLE);
+    blank(row, 20);
+    CHECK(morel_station_alias(NULL, 0, row, 20) == MOREL_GIVES && IS(row, 0xFFFF));
+    CHECK(morel_station_alias(room, 4, NULL, 0) == MOREL_GIVES);
+    blank(row, 20);
+    CHECK(morel_identity(NULL, 0, row, 20) == MOREL_GIVES && IS(row, 0xFFFFFFFF, 0xFFFFFFFF, 0xFFFFFFFF, 0xFFFFFFFF));
+    blank(row, 20);
+    CHECK(morel_mailbox_config(NULL, 0, row, 20) == MOREL_DECODE && KEPT(row));
+    CHECK(morel_size(NULL, 0, row, 20) == MOREL_GIVES && IS(row, 8388608));
+    blank(row, 20);
+    CHECK(morel_category(NULL, 0, 30, row, 20) == MOREL_ABSENT && KEPT(row));
+    CHECK(morel_category_inside(NULL, 0, 30, row, 20) == MOREL_GIVES && IS(row, 0));
+    blank(row, 20);
+    CHECK(morel_general(NULL, 0, row, 20) == MOREL_NO_CATEGORY && KEPT(row));
+    CHECK(morel_find_string(NULL, 0, 1, NULL, 0, row, 20) == MOREL_ABSENT && KEPT(row));
+    CHECK(morel_device_name(NULL, 0, NULL, 0, row, 20) == MOREL_ABSENT && KEPT(row));
+    CHECK(morel_device_description(NULL, 0, NULL, 0, row, 20) == MOREL_NO_CATEGORY && KEPT(row));
+    CHECK(morel_open(NULL, 0, row, 20) == MOREL_GIVES && IS(row, 0, 0, 0));
+    blank(row, 20);
+    CHECK(morel_push_pdu(NULL, 0, 0, 0, 0, 5, 4, 0, NULL, 0, 0, row, 20) == MOREL_TOO_LONG && IS(row, 0, 0, 0, 6));
+    blank(row, 20);
+    CHECK(morel_push_pdu_slice_rest(NULL, 0, 0, 0, 0, 5, 4, 0, NULL, 0, row, 20) == MOREL_ABSENT && IS(row, 0, 0, 0, 5));
+    CHECK(morel_can_push_pdu_payload(12, 0, 0, 0, 0, NULL, 0) == MOREL_GIVES);
+    CHECK(morel_frame_header(0, NULL, 0) == MOREL_BAD_ARGUMENT);
+    blank(row, 20);
+    CHECK(morel_read_frame(NULL, 0, row, 20) == MOREL_BAD_FRAME && IS(row, 0));
+    blank(row, 20);
+    CHECK(morel_spread(NULL, 0, 20, 0, 0, 0, 5, 12, 0, NULL, 0, row, 20) == MOREL_BAD_ARGUMENT && IS(row, 5, 0));
+}
+
+static void null_and_some(void) {
+    uint64_t row[20];
+    uint8_t bytes[40], before[40];
+    memset(bytes, 9, sizeof bytes);
+    memcpy(before, bytes, sizeof bytes);
+    blank(row, 20);
+
+    CHECK(morel_crc(NULL, 1) == MOREL_BAD_ARGUMENT);
+    CHECK(morel_set_station_alias(NULL, 16, 7) == MOREL_BAD_ARGUMENT);
+    CHECK(morel_station_alias(NULL, 1, row, 20) == MOREL_BAD_ARGUMENT);
+    CHECK(morel_station_alias(bytes, 40, NULL, 1) == MOREL_BAD_ARGUMENT);
+    CHECK(morel_identity(NULL, 1, row, 20) == MOREL_BAD_ARGUMENT);
+    CHECK(morel_identity(bytes, 40, NULL, 4) == MOREL_BAD_ARGUMENT);
+    CHECK(morel_mailbox_config(NULL, 1, row, 20) == MOREL_BAD_ARGUMENT);
+    CHECK(morel_mailbox_config(bytes, 40, NULL, 5) == MOREL_BAD_ARGUMENT);
+    CHECK(morel_size(NULL, 1, row, 20) == MOREL_BAD_ARGUMENT);
+    CHECK(morel_size(bytes, 40, NULL, 1) == MOREL_BAD_ARGUMENT);
+    CHECK(morel_category(NULL, 1, 30, row, 20) == MOREL_BAD_ARGUMENT);
+    CHECK(morel_category(bytes, 40, 30, NULL, 2) == MOREL_BAD_ARGUMENT);
+    CHECK(morel_category_inside(NULL, 1, 30, row, 20) == MOREL_BAD_ARGUMENT);
+    CHECK(morel_category_inside(bytes, 40, 30, NULL, 1) == MOREL_BAD_ARGUMENT);
+    CHECK(morel_general(NULL, 1, row, 20) == MOREL_BAD_ARGUMENT);
+    CHECK(morel_general(bytes, 40, NULL, 14) == MOREL_BAD_ARGUMENT);
+    CHECK(morel_find_string(NULL, 1, 1, bytes, 40, row, 20) == MOREL_BAD_ARGUMENT);
+    CHECK(morel_find_string(bytes, 40, 1, NULL, 1, row, 20) == MOREL_BAD_ARGUMENT);
+    CHECK(morel_find_string(bytes, 20, 1, bytes + 20, 20, NULL, 1) == MOREL_BAD_ARGUMENT);
+    CHECK(morel_device_name(NULL, 1, bytes, 40, row, 20) == MOREL_BAD_ARGUMENT);
+    CHECK(morel_device_name(bytes, 40, NULL, 1, row, 20) == MOREL_BAD_ARGUMENT);
+    CHECK(morel_device_name(bytes, 20, bytes + 20, 20, NULL, 1) == MOREL_BAD_ARGUMENT);
+    CHECK(morel_device_description(NULL, 1, bytes, 40, row, 20) == MOREL_BAD_ARGUMENT);
+    CHECK(morel_device_description(bytes, 40, NULL, 1, row, 20) == MOREL_BAD_ARGUMENT);
+    CHECK(morel_device_description(bytes, 20, bytes + 20, 20, NULL, 1) == MOREL_BAD_ARGUMENT);
+    CHECK(morel_open(NULL, 1, row, 20) == MOREL_BAD_ARGUMENT);
+    CHECK(morel_open(bytes, 40, NULL, 3) == MOREL_BAD_ARGUMENT);
+    CHECK(morel_push_pdu(NULL, 40, 0, 0, 0, 5, 4, 0, bytes, 2, 0, row, 20) == MOREL_BAD_ARGUMENT);
+    CHECK(morel_push_pdu(bytes, 40, 0, 0, 0, 5, 4, 0, NULL, 2, 0, row, 20) == MOREL_BAD_ARGUMENT);
+    CHECK(morel_push_pdu(bytes, 20, 0, 0, 0, 5, 4, 0, bytes + 20, 2, 0, NULL, 8) == MOREL_BAD_ARGUMENT);
+    CHECK(morel_push_pdu_slice_rest(NULL, 40, 0, 0, 0, 5, 4, 0, bytes, 2, row, 20) == MOREL_BAD_ARGUMENT);
+    CHECK(morel_push_pdu_slice_rest(bytes, 40, 0, 0, 0, 5, 4, 0, NULL, 2, row, 20) == MOREL_BAD_ARGUMENT);
+    CHECK(morel_push_pdu_slice_rest(bytes, 20, 0, 0, 0, 5, 4, 0, bytes + 20, 2, NULL, 9) == MOREL_BAD_ARGUMENT);
+    CHECK(morel_can_push_pdu_payload(40, 0, 0, 0, 2, NULL, 1) == MOREL_BAD_ARGUMENT);
+    CHECK(morel_frame_header(28, NULL, 2) == MOREL_BAD_ARGUMENT);
+    CHECK(morel_read_frame(NULL, 2, row, 20) == MOREL_BAD_ARGUMENT);
+    CHECK(morel_read_frame(bytes, 40, NULL, 1) == MOREL_BAD_ARGUMENT);
+    CHECK(morel_spread(NULL, 40, 20, 0, 0, 0, 5, 12, 0, bytes, 4, row, 20) == MOREL_BAD_ARGUMENT);
+    CHECK(morel_spread(bytes, 40, 20, 0, 0, 0, 5, 12, 0, NULL, 4, row, 20) == MOREL_BAD_ARGUMENT);
+    CHECK(morel_spread(bytes, 20, 20, 0, 0, 0, 5, 12, 0, bytes + 20, 4, NULL, 5) == MOREL_BAD_ARGUMENT);
+
+    CHECK(KEPT(row) && memcmp(before, bytes, sizeof bytes) == 0);
 }
 
 /* ---- recorded requests: a kind's name, the shape of its words (b bytes, c a chunk's width, which no answer depends on, and 1, 2 or 4: a number
@@ -501,6 +606,8 @@ int main(int argc, char **argv) {
     strings();
     frames();
     spreading();
+    null_and_none();
+    null_and_some();
     if (argc == 3) replay(argv[1], argv[2]);
     printf("%lu checks, %lu failed\n", checks, failures);
     return failures != 0;

@@ -1,11 +1,11 @@
-"""A second opinion on document 01, in plain Python.
+"""A second opinion on docs/RULES.md, in plain Python.
 
 What it is for: the comparison asks the desk, the original Rust and this
 program the same questions and looks for different answers. The Rust has no
 frame reader, no spreading and not all refusals; there this program is the
 only other voice.
 
-It was written from the words: document 01, the open points of
+It was written from the words: the rules, the open points of
 docs/DECISIONS.md and the desk's line protocol. Its writers saw neither the
 Rattle nor the Rust. Where the words left a choice, UNCLEAR.md says what was
 chosen.

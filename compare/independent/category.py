@@ -23,7 +23,23 @@ END_TYPE = 0xFFFF
 
 
 def category(image, number):
-    """The category's range, or absent. The steps stand in document 01's order."""
+    """The category's range, or absent."""
+    return _search(image, number, [])
+
+
+def inside(image, number):
+    """Whether every byte that the search looked at, and the category that it
+    found, lie in the image. Refusals are the search's own."""
+    ends = []
+    found = _search(image, number, ends)
+    if found is not ABSENT:
+        ends.append(found.end)
+    return int(max(ends) <= len(image))
+
+
+def _search(image, number, ends):
+    """The steps stand in the rule's order. `ends` takes where each header that
+    is looked at ends: of the mark only the type is looked at."""
     eeprom.check_image(image)
     refuse_unless(number in SOUGHT, BAD_ARGUMENT)
     word = FIRST_WORD
@@ -31,6 +47,7 @@ def category(image, number):
     while True:
         kind = eeprom.word_at(image, word)
         length = eeprom.word_at(image, word + 1)
+        ends.append(2 * word + (2 if kind == END_TYPE else 2 * HEADER_WORDS))
         # "move on 2 words (past 65,535: absent)"
         word += HEADER_WORDS
         if word > eeprom.HIGHEST:

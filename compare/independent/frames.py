@@ -86,6 +86,13 @@ def _has_space(size, state, length):
 
 def push_pdu(area, state, counter, command, address, data, override):
     """Gives the PDU's place and whole size."""
+    return push_handle(area, state, counter, command, address, data,
+                       override)[:2]
+
+
+def push_handle(area, state, counter, command, address, data, override):
+    """Gives the PDU's place, whole size, index and command: what is kept to
+    know the PDU again when it comes back."""
     # "takes the larger of data length and override"
     length = max(len(data), override)
     check_push(len(area), state, command, length)
@@ -104,7 +111,7 @@ def push_pdu(area, state, counter, command, address, data, override):
     state.used = place + OVERHEAD + length
     state.count += 1
     state.last = place
-    return place, OVERHEAD + length
+    return place, OVERHEAD + length, index, command
 
 
 def push_pdu_slice_rest(area, state, counter, command, address, data):

@@ -1,10 +1,14 @@
 """What the program `morel` prints, from docs/MOREL.md and the read-outs here.
 
 `run(words, folder)` gives all that it writes for these arguments when it
-stands in this folder; `alias` changes the file there.
+stands in this folder, and its status; `alias` changes the file there.
+
+A line is a text and its status: 0 answered, 1 refused, wrong or cut, 2 a file
+or words that can't be used.
 """
 
 import os
+import re
 
 from . import category, eeprom, frames, setup, sii, spread, strings
 from .refusal import ABSENT, BAD_ARGUMENT, Refusal, refuse_unless
@@ -16,6 +20,24 @@ IMAGE_FILE_LIMIT = 65_536
 NAME_LIMIT = 4_096
 COMMAND_NAME_LIMIT = 8
 NUMBER_WORD_LIMIT = 32
+STATUS_WORD = b"--status"
+
+ANSWERED, WRONG, UNUSABLE = range(3)
+
+# What stands behind a line that rests on bytes past the image's end.
+CUT = " (cut)"
+
+# The fixed area, in bytes (ETG2010 Table 2): where it ends, and where what is
+# read of it ends.
+FIXED_END = 128
+SIZE_END = 126
+VERSION_END = 128
+CHECKSUM_END = 15
+ALIAS_END = 10
+PDI_END = 8
+IDENTITY_END = 32
+BOOTSTRAP_END = 48
+MAILBOX_END = 57
 
 REFUSALS = {
     1: "Address", 2: "Overrun", 3: "NoCategory", 4: "StringTooLong",
@@ -45,17 +67,31 @@ USAGE = """\
 usage: morel COMMAND [then COMMAND ..]
   sii FILE                 print what an EEPROM image holds
   frame FILE               print a frame's PDUs
-  alias FILE N             write the alias N and the checksum into an EEPROM image
+  alias FILE N [force]     write the alias N and the checksum into an EEPROM image; `force`: even if its checksum is wrong
   spread SIZE AREAS FILE   cut a process image over AREAS frames of SIZE bytes
-Commands joined by the word `then` run one after the other; one that fails stops no other.
+Numbers are decimal, or hex after 0x. Commands joined by the word `then` run one after the other; one that fails stops no other.
 """.splitlines()
 
 
 # --- Lines ---
 
 
-def line(label, text):
-    return label.ljust(COLUMN) + text
+class Line(str):
+    """A line's text, with its status."""
+
+    def __new__(cls, text, status=ANSWERED):
+        made = super().__new__(cls, text)
+        made.status = status
+        return made
+
+
+def line(label, text, status=ANSWERED):
+    return Line(label.ljust(COLUMN) + text, status)
+
+
+def marked(lines, cut):
+    """The lines, with the mark where they are cut."""
+    return [Line(text + CUT, WRONG) for text in lines] if cut else lines
 
 
 def hexed(digits):
@@ -89,8 +125,10 @@ def plain(text):
                    else f"\\x{byte:02x}" for byte in text)
 
 
-def refused(refusal):
-    return f"refused {refusal.number} {REFUSALS[refusal.number]}"
+def refused(label, refusal):
+    return [line(label,
+                 f"refused {refusal.number} {REFUSALS[refusal.number]}",
+                 WRONG)]
 
 
 def one(label, say, call, *arguments):
@@ -98,7 +136,7 @@ def one(label, say, call, *arguments):
     try:
         return [line(label, say(call(*arguments)))]
     except Refusal as refusal:
-        return [line(label, refused(refusal))]
+        return refused(label, refusal)
 
 
 def fields(label, kinds, call, *arguments):
@@ -106,7 +144,7 @@ def fields(label, kinds, call, *arguments):
     try:
         record = call(*arguments)
     except Refusal as refusal:
-        return [line(label, refused(refusal))]
+        return refused(label, refusal)
     return rows("", kinds, record)
 
 
@@ -121,7 +159,7 @@ def listed(label, item, kinds, call, *arguments):
     try:
         records = call(*arguments)
     except Refusal as refusal:
-        return [line(label, refused(refusal))]
+        return refused(label, refusal)
     lines = [line(label, str(len(records)))]
     for place, record in enumerate(records):
         lines += rows(f"{item} {place} ", kinds, record)
@@ -154,6 +192,8 @@ GENERAL = (
     ("general port 2", named(PORTS)), ("general port 3", named(PORTS)),
     ("general physical address", hex16),
 )
+PHYSICAL_PORTS = tuple((f"physical port {place}", named(PORTS))
+                       for place in range(4))
 SYNC_MANAGER = (
     ("start", hex16), ("bytes", str), ("mode", named(MODES)),
     ("direction", named(DIRECTIONS)), ("ecat event", yes), ("dls event", yes),
@@ -168,9 +208,54 @@ CLOCK = (
 )
 
 
+# --- What is cut ---
+
+
+def whole(image):
+    """How many bytes the image should have: by its size word, if it has it."""
+    return sii.size(image) if len(image) >= SIZE_END else FIXED_END
+
+
+def cut_line(image):
+    missing = whole(image) - len(image)
+    if missing <= 0:
+        return []
+    return [Line(f"image cut: {missing} of {whole(image)} bytes are missing "
+                 "and read as 0xff")]
+
+
+def category_cut(image, number):
+    """Whether the category, or where there is none what was looked at to know
+    it, lies not whole in the image."""
+    try:
+        return not category.inside(image, number)
+    except Refusal:
+        # A length may have been read past the end.
+        return len(image) < whole(image)
+
+
+def names_cut(image):
+    """Whether General or the strings are cut, or a string is sought in a
+    category that has none, past the image's end: there its count and its
+    length are read behind the category."""
+    if (category_cut(image, category.GENERAL)
+            or category_cut(image, category.STRINGS)):
+        return True
+    try:
+        at = category.category(image, category.STRINGS)
+    except Refusal:
+        return False
+    return at is not ABSENT and not at.left() and len(image) < at.end + 2
+
+
+# --- The lines of an image ---
+
+
 def checksum_lines(image):
     stored, computed = setup.checksum(image)
-    return [line("checksum", "right" if stored == computed else "wrong"),
+    right = stored == computed
+    return [line("checksum", "right" if right else "wrong",
+                 ANSWERED if right else WRONG),
             line("checksum stored", hex8(stored)),
             line("checksum computed", hex8(computed))]
 
@@ -188,39 +273,70 @@ def string_lines(image):
     try:
         at = category.category(image, category.STRINGS)
     except Refusal as refusal:
-        return [line("strings", refused(refusal))]
+        return refused("strings", refusal)
     if at is ABSENT:
         return [line("strings", "absent")]
-    count = eeprom.stored(image, at.pos, 1)[0]
+    # An empty category has no first byte, and no string.
+    count = eeprom.stored(image, at.pos, 1)[0] if at.left() else 0
     lines = [line("strings", str(count))]
     for index in range(1, count + 1):
         lines += string_line(f"string {index}", strings.string, image, index)
     return lines
 
 
+def fixed_lines(image):
+    parts = (
+        (SIZE_END, one("sii bytes", str, sii.size, image)),
+        (VERSION_END, one("sii version", str, setup.version, image)),
+        (CHECKSUM_END, checksum_lines(image)),
+        (ALIAS_END, one("alias", str, sii.alias, image)),
+        (PDI_END, fields("pdi control", PDI, setup.pdi, image)),
+        (IDENTITY_END, fields("identity", IDENTITY, sii.identity, image)),
+        (BOOTSTRAP_END,
+         fields("bootstrap", BOOTSTRAP, setup.bootstrap_mailbox, image)),
+        (MAILBOX_END, fields("mailbox", MAILBOX, sii.mailbox, image)),
+    )
+    return [text for end, lines in parts
+            for text in marked(lines, len(image) < end)]
+
+
+def physical_lines(image):
+    return (fields("physical ports", PHYSICAL_PORTS, sii.physical_ports, image)
+            + one("physical memory address", hex16,
+                  sii.physical_memory_address, image))
+
+
+def category_lines(image):
+    parts = (
+        (category_cut(image, category.GENERAL),
+         fields("general", GENERAL, sii.general, image)
+         + physical_lines(image)),
+        (names_cut(image),
+         string_line("device name", strings.device_name, image)),
+        (names_cut(image),
+         string_line("device description", strings.description, image)),
+        (category_cut(image, category.STRINGS), string_lines(image)),
+        (category_cut(image, category.SYNC_MANAGERS),
+         listed("sync managers", "sync manager", SYNC_MANAGER,
+                sii.sync_managers, image)),
+        (category_cut(image, category.FMMU),
+         listed("fmmus", "fmmu", (("usage", named(FMMU_USAGES)),),
+                sii.fmmus, image)),
+        (category_cut(image, category.EXTENDED_FMMU),
+         listed("extended fmmus", "fmmu", (("sync manager", str),),
+                sii.extended_fmmus, image)),
+        (category_cut(image, category.TX_PDO),
+         listed("tx pdos", "tx pdo", PDO, sii.pdos, image, category.TX_PDO)),
+        (category_cut(image, category.RX_PDO),
+         listed("rx pdos", "rx pdo", PDO, sii.pdos, image, category.RX_PDO)),
+        (category_cut(image, category.CLOCK),
+         listed("clock modes", "clock mode", CLOCK, setup.clocks, image)),
+    )
+    return [text for cut, lines in parts for text in marked(lines, cut)]
+
+
 def sii_lines(image):
-    return (
-        one("sii bytes", str, sii.size, image)
-        + one("sii version", str, setup.version, image)
-        + checksum_lines(image)
-        + one("alias", str, sii.alias, image)
-        + fields("pdi control", PDI, setup.pdi, image)
-        + fields("identity", IDENTITY, sii.identity, image)
-        + fields("bootstrap", BOOTSTRAP, setup.bootstrap_mailbox, image)
-        + fields("mailbox", MAILBOX, sii.mailbox, image)
-        + fields("general", GENERAL, sii.general, image)
-        + string_line("device name", strings.device_name, image)
-        + string_line("device description", strings.description, image)
-        + string_lines(image)
-        + listed("sync managers", "sync manager", SYNC_MANAGER,
-                 sii.sync_managers, image)
-        + listed("fmmus", "fmmu", (("usage", named(FMMU_USAGES)),),
-                 sii.fmmus, image)
-        + listed("extended fmmus", "fmmu", (("sync manager", str),),
-                 sii.extended_fmmus, image)
-        + listed("tx pdos", "tx pdo", PDO, sii.pdos, image, category.TX_PDO)
-        + listed("rx pdos", "rx pdo", PDO, sii.pdos, image, category.RX_PDO)
-        + listed("clock modes", "clock mode", CLOCK, setup.clocks, image))
+    return cut_line(image) + fixed_lines(image) + category_lines(image)
 
 
 # --- Frames ---
@@ -252,7 +368,7 @@ def spread_lines(image, size, areas):
         states = spread.spread(size, row, frames.State(0, 0, 0),
                                frames.Counter(0), 11, 0, image)
     except Refusal as refusal:
-        return lines + [line("last area", refused(refusal))]
+        return lines + refused("last area", refusal)
     lines.append(line("last area", str(len(states))))
     for place, state in enumerate(states):
         area = row[size * place:size * place + state.used]
@@ -270,7 +386,7 @@ def spread_lines(image, size, areas):
 
 
 def error(text):
-    return [line("error", text)]
+    return [line("error", text, UNUSABLE)]
 
 
 def usage():
@@ -304,30 +420,42 @@ def frame_command(folder, path):
 
 
 def number(word):
-    """At most 32 bits, in at most 32 digits; else nothing."""
-    if not word.isdigit() or len(word) > NUMBER_WORD_LIMIT:
+    """At most 32 bits, in at most 32 characters, decimal or hex behind `0x`;
+    else nothing."""
+    if len(word) > NUMBER_WORD_LIMIT:
         return None
-    value = int(word)
+    if re.fullmatch(rb"[0-9]+", word):
+        value = int(word)
+    elif re.fullmatch(rb"0x[0-9A-Fa-f]+", word):
+        value = int(word, 16)
+    else:
+        return None
     return value if value < 2 ** 32 else None
 
 
-def alias_command(folder, path, word):
+def alias_command(folder, path, word, *further):
     value = number(word)
 
     def lines(image):
         if value is None or value > 65_535:
             return error("N is no number from 0 to 65535")
         before = bytes(image)
+        stored, computed = setup.checksum(image)
         try:
             sii.set_alias(image, value)
         except Refusal as refusal:
-            return [line("alias", refused(refusal))]
-        said = []
+            return refused("alias", refusal)
+        said = [line("checksum before",
+                     "right" if stored == computed else "wrong")]
+        if stored != computed and not further:
+            return said + [line(
+                "alias", "not written: the checksum is wrong; add the word "
+                "force to write it anyway", WRONG)]
         try:
             with open(os.path.join(os.fsencode(folder), path), "r+b") as file:
                 file.write(image)
         except OSError:
-            return error("the file cannot be written")
+            return said + error("the file cannot be written")
         for place, (old, new) in enumerate(zip(before, image)):
             if old != new:
                 said += [line(f"byte {place} before", hex8(old)),
@@ -355,6 +483,14 @@ COMMAND_TABLE = {
 }
 
 
+def chosen(command):
+    """What does this command, if it is one."""
+    name, words = b"".join(command[:1]), command[1:]
+    if name == b"alias" and words[2:] == [b"force"]:
+        return alias_command
+    return COMMAND_TABLE.get((name, len(words)))
+
+
 def chained(words):
     """The commands between the words `then`."""
     commands = [[]]
@@ -367,11 +503,15 @@ def chained(words):
 
 
 def run(words, folder):
-    """All that `morel` writes for these words (bytes)."""
-    texts = []
+    """All that `morel` writes for these words (bytes), and its status."""
+    if words[:1] == [STATUS_WORD]:
+        words = words[1:]
+    texts, status = [], ANSWERED
     for command in chained(words):
-        call = COMMAND_TABLE.get((b"".join(command[:1]), len(command) - 1))
+        call = chosen(command)
         lines = call(folder, *command[1:]) if call else usage()
         texts.append("".join(text + "\n" for text in lines))
+        status = max([status] + [getattr(text, "status", ANSWERED)
+                                 for text in lines])
     # An empty line between two commands.
-    return "\n".join(texts).encode("ascii")
+    return "\n".join(texts).encode("ascii"), status

@@ -112,6 +112,11 @@ def _category(image, _chunk, number):
     return said(_pos_end(category.category), image, number)
 
 
+@request(b"inside", *IMAGE, u16)
+def _inside(image, _chunk, number):
+    return said(category.inside, image, number)
+
+
 # --- Read-outs ---
 
 
@@ -140,14 +145,34 @@ def _mailbox(image, _chunk):
     return said(sii.mailbox, image)
 
 
+@request(b"hasmail", *IMAGE)
+def _has_mailbox(image, _chunk):
+    return said(sii.has_mailbox, image)
+
+
 @request(b"general", *IMAGE)
 def _general(image, _chunk):
     return said(sii.general, image)
 
 
+@request(b"physport", *IMAGE)
+def _physical_ports(image, _chunk):
+    return said(sii.physical_ports, image)
+
+
+@request(b"physaddr", *IMAGE)
+def _physical_memory_address(image, _chunk):
+    return said(sii.physical_memory_address, image)
+
+
 @request(b"sms", *IMAGE)
 def _sync_managers(image, _chunk):
     return said(counted(sii.sync_managers), image)
+
+
+@request(b"usages", *IMAGE)
+def _usages(image, _chunk):
+    return said(counted(sii.usages), image)
 
 
 @request(b"fmmus", *IMAGE)
@@ -290,22 +315,24 @@ def _open(area):
     return text + record(0, 0, 0) + lent(area)
 
 
-@request(b"push", data, *COUNTED_STATE, u8, u32, data, u16)
-def _push(area, used, count, last, index, command, address, pushed, override):
-    state = frames.State(used, count, last)
-    counter = frames.Counter(index)
-    text = said(frames.push_pdu, area, state, counter, command, address,
-                pushed, override)
-    return text + _state_record(state, counter) + lent(area)
+def _pushing(call):
+    """The answer of a push, then the state and the area as it leaves them."""
+
+    def push(area, used, count, last, index, *pushed):
+        state = frames.State(used, count, last)
+        counter = frames.Counter(index)
+        text = said(call, area, state, counter, *pushed)
+        return text + _state_record(state, counter) + lent(area)
+
+    return push
 
 
-@request(b"rest", data, *COUNTED_STATE, u8, u32, data)
-def _rest(area, used, count, last, index, command, address, pushed):
-    state = frames.State(used, count, last)
-    counter = frames.Counter(index)
-    text = said(frames.push_pdu_slice_rest, area, state, counter, command,
-                address, pushed)
-    return text + _state_record(state, counter) + lent(area)
+PUSH = (data,) + COUNTED_STATE + (u8, u32, data)
+
+request(b"push", *PUSH, u16)(_pushing(frames.push_pdu))
+request(b"handle", *PUSH, u16)(_pushing(frames.push_handle))
+request(b"rest", *PUSH)(_pushing(frames.push_pdu_slice_rest))
+
 
 
 @request(b"canpush", u16, *STATE, u16)

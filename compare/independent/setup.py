@@ -1,6 +1,6 @@
 """What sets a device up: PDI, bootstrap mailbox, version, checksum, clocks.
 
-Document 01 places the checksum alone, where it sets the alias. The other
+The rules place the checksum alone, where they set the alias. The other
 places follow ETG1000.6 and ETG2010, the order of the answers the desk's line
 protocol.
 """

@@ -1,6 +1,6 @@
 """What is read out: alias, identity, mailbox, size, General, the lists.
 
-The places of the fields follow ETG1000.6 and ETG2010, so far as document 01
+The places of the fields follow ETG1000.6 and ETG2010, so far as the rules
 and docs/DECISIONS.md don't give them.
 """
 
@@ -36,6 +36,9 @@ SYNC_MANAGER_TYPES = frozenset((0, 1, 2, 3, 4))
 FMMU_USAGES = {0: 0, 1: 1, 2: 2, 3: 3, 0xFF: 0}
 
 GENERAL_BYTES = 18
+# Where ETG2010 has them; the record above has them two bytes earlier.
+PHYSICAL_PORTS_BYTE = 16
+PHYSICAL_ADDRESS_BYTE = 18
 SYNC_MANAGER_BYTES = 8
 EXTENDED_FMMU_BYTES = 3
 PDO_BYTES = 8
@@ -83,6 +86,12 @@ def mailbox(image):
     return fields[:4] + (_flags(fields[4], MAILBOX_UNDEFINED),)
 
 
+def has_mailbox(image):
+    """The Rust's own test: a size to send, or protocols and a size to receive."""
+    _, receive_size, _, send_size, protocols = mailbox(image)
+    return int(send_size > 0 or protocols > 0 and receive_size > 0)
+
+
 def _flags(value, undefined):
     refuse_unless(value & undefined == 0, DECODE)
     return value
@@ -119,11 +128,32 @@ def _decode_general(record):
     eoe = int(record[7] != 0)
     flags = _flags(record[11], FLAGS_UNDEFINED)
     current, ports, physical = struct.unpack("<3H", record[12:18])
-    # Four bits a port, port 0 lowest.
-    statuses = tuple(_listed(ports >> shift & 0xF, PORT_STATUSES)
-                     for shift in (0, 4, 8, 12))
     return ((group, picture, order, name, coe, foe, eoe, flags, current)
-            + statuses + (physical,))
+            + _statuses(ports) + (physical,))
+
+
+def _statuses(ports):
+    """Four bits a port, port 0 lowest."""
+    return tuple(_listed(ports >> shift & 0xF, PORT_STATUSES)
+                 for shift in (0, 4, 8, 12))
+
+
+def _word_of_general(image, byte):
+    """The 16 bits at a byte of General. Nothing else of it is decoded."""
+    at = category.category(image, category.GENERAL)
+    refuse_unless(at is not ABSENT, NO_CATEGORY)
+    record = bytearray(byte + 2)
+    eeprom.read_exact(image, at, record)
+    return int.from_bytes(record[byte:], "little")
+
+
+def physical_ports(image):
+    """The kinds of ports 0 to 3, by ETG2010's places."""
+    return _statuses(_word_of_general(image, PHYSICAL_PORTS_BYTE))
+
+
+def physical_memory_address(image):
+    return _word_of_general(image, PHYSICAL_ADDRESS_BYTE)
 
 
 # --- Lists ---
@@ -173,6 +203,18 @@ def _decode_sync_manager(record, _image, _at):
         _flags(enable, ENABLE_UNDEFINED),
         _listed(usage, SYNC_MANAGER_TYPES),
     )
+
+
+# By mode and direction: process data that is read or written, a mailbox
+# likewise. Direction 0 is read by the master.
+INFERRED = {(0, 0): 4, (0, 1): 3, (2, 0): 2, (2, 1): 1}
+
+
+def usages(image):
+    """What each sync manager is for: its stored type, or where that is
+    unknown (0) the one that mode and direction tell."""
+    return [(manager[8] or INFERRED[manager[2:4]],)
+            for manager in sync_managers(image)]
 
 
 def fmmus(image):

@@ -72,7 +72,7 @@ class Case(unittest.TestCase):
 
 
 class Bench(Case):
-    """Document 01, 'Measured on the bench'."""
+    """RULES, bench."""
 
     def test_crc(self):
         self.says("crc " + "00" * 14, "gives 48")
@@ -313,6 +313,38 @@ class Category(Case):
                   "refuses 1")
         self.says(f"category {start}{header(1, 0xFFBD).hex()} 4 10", "absent")
 
+    def test_inside(self):
+        # Headers at 128 and 136, bodies at 132 and 140, the mark at 146.
+        two = image((30, b"\x01" * 4), (10, b"\x02" * 6))
+        marked = two + "ffff"
+        for number in (10, 30, 60):
+            self.says(f"inside {marked} 4 {number}", "gives 1")
+        # A mark that is read past the end, or half of it, is no mark.
+        for cut in (two, two + "ff"):
+            self.says(f"inside {cut} 8 60", "gives 0")
+            self.says(f"inside {cut} 8 10", "gives 1")
+        # The body's last byte is missing, and then the header's.
+        self.says(f"inside {two[:-2]} 4 10", "gives 0")
+        self.says(f"inside {two[:2 * 136]} 4 30", "gives 1")
+        self.says(f"inside {two[:2 * 135]} 4 30", "gives 0")
+        # The length's high byte reads 0xFF: the range would end past its limit.
+        self.says(f"inside {two[:2 * 131]} 4 30", "refuses 1")
+        self.says(f"inside {two[:2 * 131]} 4 10", "gives 0")
+        self.says("inside - 4 10", "gives 0")
+
+    def test_inside_at_the_32nd_empty_header(self):
+        empty = image(*[(0, b"")] * 32)
+        self.says(f"inside {empty} 4 10", "gives 1")
+        # Without its last byte the header leads on, to a mark that is not there.
+        self.says(f"inside {empty[:-2]} 4 10", "gives 0")
+
+    def test_inside_refuses_as_the_search(self):
+        self.says(f"inside {'00' * 129} 4 10", "refuses 1")
+        self.says("inside - 4 11", "refuses 14")
+        self.says(f"inside {'00' * 65_537} 4 10", "refuses 14")
+        start = bytes(128).hex()
+        self.says(f"inside {start}{header(10, 32702).hex()} 4 10", "refuses 1")
+
     def test_range_past_the_top(self):
         start = bytes(128).hex()
         # 132 + 2 times 32,701 is 65,534.
@@ -363,6 +395,16 @@ class ReadOuts(Case):
         self.says(line.format("00108000801080004000"), "refuses 5")
         self.says(line.format("00108000801080008000"), "refuses 5")
 
+    def test_has_mailbox(self):
+        # Receive size at byte 50, send size at 54, protocols at 56.
+        for receive, send, protocols, there in (
+                (0, 0, 0, 0), (1, 0, 0, 0), (0, 0, 1, 0), (1, 0, 1, 1),
+                (0, 1, 0, 1), (1, 1, 4, 1)):
+            some = bytearray(58)
+            some[50], some[54], some[56] = receive, send, protocols
+            self.says(f"hasmail {hexed(some)} 4", f"gives {there}")
+        self.says(f"hasmail {'00' * 56} 4", "refuses 5")
+
     def test_mailbox_of_a_short_image(self):
         # Decision 8.
         self.says("mailbox " + "00" * 56 + " 4", "refuses 5")
@@ -379,6 +421,25 @@ class General(Case):
         # Port 3 holds 15, which has no name and becomes 0.
         self.says(f"general {image((30, GENERAL))} 4",
                   "gives 1 2 3 4 63 1 0 31 65336 1 3 4 0 4660")
+
+    def test_the_places_of_the_standard(self):
+        # Bytes 16 and 17: port 0 holds 4, 1 holds 3, 2 holds 2, 3 holds 15.
+        whole = GENERAL[:16] + bytes.fromhex("34f23412") + bytes(12)
+        self.says(f"physport {image((30, whole))} 4", "gives 4 3 2 0")
+        self.says(f"physaddr {image((30, whole))} 8", "gives 4660")
+        # Undefined flag bits are no matter of theirs.
+        flags = whole[:11] + b"\xff" + whole[12:]
+        self.says(f"physaddr {image((30, flags))} 4", "gives 4660")
+        for words, ports, address in ((8, "refuses 2", "refuses 2"),
+                                      (9, "gives 4 3 2 0", "refuses 2"),
+                                      (10, "gives 4 3 2 0", "gives 4660")):
+            cut = image((30, whole[:2 * words]))
+            self.says(f"physport {cut} 4", ports)
+            self.says(f"physaddr {cut} 4", address)
+        for kind in ("physport", "physaddr"):
+            self.says(f"{kind} - 4", "refuses 3")
+            self.says(f"{kind} {'00' * 129} 4", "refuses 1")
+            self.says(f"{kind} {'00' * 65_537} 4", "refuses 14")
 
     def test_longer_category(self):
         self.says(f"general {image((30, GENERAL + b'  '))} 4",
@@ -426,6 +487,15 @@ class Lists(Case):
         other = bytes.fromhex("00000000d9000f05")
         self.says(f"sms {image((41, self.MANAGER + other))} 4",
                   "gives 2 4096 128 2 1 0 1 0 1 1 0 0 0 0 1 0 1 15 0")
+
+    def test_usages(self):
+        # Byte 4 holds mode (0, 2) and direction (0, 1), byte 7 the usage.
+        for control, stored, told in ((0x00, 0, 4), (0x04, 0, 3), (0x02, 0, 2),
+                                      (0x06, 0, 1), (0x00, 1, 1), (0x06, 4, 4),
+                                      (0x06, 9, 1)):
+            manager = bytes([0, 0, 0, 0, control, 0, 0, stored])
+            self.says(f"usages {image((41, manager))} 4", f"gives 1 {told}")
+        self.says("usages - 4", "gives 0")
 
     def test_partial_record_ends_the_list(self):
         self.says(f"sms {image((41, self.MANAGER + self.MANAGER[:6]))} 4",
@@ -932,6 +1002,17 @@ class Builder(Case):
         self.says("open " + "ee" * 2047, "gives @ 0 0 0 | " + "00" * 2047)
         self.says("open " + "ee" * 2048, "refuses 14 @ 0 0 0 | " + "ee" * 2048)
 
+    def test_handle(self):
+        # As `push`, and the index and the command that the PDU went out with.
+        area = "00" * 16
+        self.says(f"handle {area} 0 0 0 255 5 1 61 2",
+                  "gives 0 14 255 5 @ 14 1 0 0 | 05ff0100000002000000"
+                  "61" + "00" * 5)
+        self.says(f"handle {area} 0 0 0 7 5 1 - 5",
+                  f"refuses 8 @ 0 0 0 8 | {area}")
+        self.says(f"handle {area} 0 0 0 7 15 1 - 0",
+                  f"refuses 14 @ 0 0 0 7 | {area}")
+
     def test_push_leaves_what_is_missing(self):
         # Data of 1, override 3: two payload bytes and the last two stay.
         after = packed("00 09 04 03 02 01 03 00 00 00 ab") + "ee" * 9
@@ -1312,9 +1393,12 @@ class Lines(Case):
     def test_too_few_and_too_many(self):
         good = ("crc 00", "new 1 2", "startat 1 2", "skip 0 2 1",
                 "byte 00 4 0 2", "read 00 4 0 2 00", "exact 00 4 0 2 00",
-                "write 00 0 2 00", "category 00 4 10", "alias 00 4",
-                "size 00 4", "setalias 00 1", "identity 00 4", "mailbox 00 4",
-                "general 00 4", "sms 00 4", "fmmus 00 4", "fmmuex 00 4",
+                "write 00 0 2 00", "category 00 4 10", "inside 00 4 10",
+                "alias 00 4",
+                "size 00 4", "setalias 00 1", "identity 00 4",
+                f"mailbox {'00' * 58} 4", f"hasmail {'00' * 58} 4",
+                "general 00 4", "physport 00 4", "physaddr 00 4",
+                "sms 00 4", "usages 00 4", "fmmus 00 4", "fmmuex 00 4",
                 "pdos 00 4 50", "pdi 00 4", "bootmail 00 4", "version 00 4",
                 "checksum 00 4", "clocks 00 4",
                 "string 00 4 1 00", "name 00 4 00",
@@ -1323,7 +1407,8 @@ class Lines(Case):
                 f"timeto {ALL_FOUR} 1", f"between {ALL_FOUR} 1",
                 f"linked {ALL_FOUR} 1", f"assign {ALL_FOUR} 1",
                 f"times {ALL_FOUR} 1 2 3 4", f"display {ALL_FOUR}", "open 00",
-                "push 00 0 0 0 0 0 0 00 0", "rest 00 0 0 0 0 0 0 00",
+                "push 00 0 0 0 0 0 0 00 0", "handle 00 0 0 0 0 0 0 00 0",
+                "rest 00 0 0 0 0 0 0 00",
                 "canpush 1 0 0 0 1", "header 1", "frame 0010",
                 "spread 1 00 0 0 0 0 10 0 -")
         self.assertEqual({line.split(" ")[0] for line in good},

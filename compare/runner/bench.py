@@ -1,5 +1,5 @@
-"""The cases of compare/bench.txt: a request, and the answer that document 01's
-words give it."""
+"""The cases of compare/bench.txt: a request, and the answer that the
+rules' words give it."""
 
 import os
 import re

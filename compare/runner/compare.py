@@ -84,7 +84,7 @@ def arguments(words):
 class Comparison:
     def __init__(self, there, save=None):
         self.programs = {program.name: program for program in there}
-        # Who speaks for document 01 against the oracle.
+        # Who speaks for the rules against the oracle.
         self.whose = next((name for name in ("desk", "independent")
                            if name in self.programs), None)
         self.tally = Tally()
@@ -99,7 +99,7 @@ class Comparison:
     # --- What is asked ---
 
     def bench(self):
-        """Document 01's cases, against every program."""
+        """The cases of bench.txt, against every program."""
         found = bench.cases()
         lines = [request for request, _ in found]
         answers = self.ask(lines)

@@ -9,6 +9,8 @@ from types import SimpleNamespace
 
 from .request import refused, shown, unchanged
 
+PUSHES = ("push", "handle", "rest")
+
 RULES = {}
 
 HIGHEST = 65_535
@@ -134,7 +136,7 @@ def _alias_half_written(request, oracle, ours):
 
 @rule("D12")
 def _flags_repacked(request, oracle, ours):
-    if request.kind not in ("push", "rest") or request.count == 0:
+    if request.kind not in PUSHES or request.count == 0:
         return False
     said, _, text = ours.rpartition(" | ")
     if not said.startswith("gives"):
@@ -159,7 +161,7 @@ def _linked_to_device_0(request, oracle, ours):
 
 @rule("D14")
 def _area_too_large(request, oracle, ours):
-    if request.kind in ("open", "push", "rest"):
+    if request.kind == "open" or request.kind in PUSHES:
         size = len(request.area)
     elif request.kind == "canpush":
         size = request.size
@@ -184,7 +186,7 @@ def _room_too_large(request, oracle, ours):
 
 @rule("D17")
 def _data_too_large(request, oracle, ours):
-    if request.kind not in ("push", "rest") or len(request.data) <= DATA_LIMIT:
+    if request.kind not in PUSHES or len(request.data) <= DATA_LIMIT:
         return False
     if ours != refused(request, 14):
         return False
@@ -218,7 +220,7 @@ def silent(request):
         return False
     kind = request.kind
     if kind in ("frame", "spread", "pdi", "bootmail", "version", "checksum",
-                "clocks"):
+                "clocks", "inside", "physport", "physaddr"):
         return True
     if kind in ("skip", "byte", "read", "exact", "write"):
         return request.end % 2 == 1
@@ -228,7 +230,7 @@ def silent(request):
         return request.link == 0
     if kind == "canpush":
         return not reached_by_pushes(request, request.size)
-    if kind in ("push", "rest"):
+    if kind in PUSHES:
         return (request.command not in RUST_COMMANDS
                 or request.command == 0 and request.address != 0
                 or not reached_by_pushes(request, len(request.area)))
@@ -277,7 +279,8 @@ MOVE_PASSES = "a move passes 65,535"
 END_ABOVE = "the range ends above 65,535"
 ABSENT = "absent"
 
-SOUGHT = {"general": (30,), "sms": (41,), "fmmus": (40,), "fmmuex": (42,),
+SOUGHT = {"general": (30,), "sms": (41,), "usages": (41,), "fmmus": (40,),
+          "fmmuex": (42,),
           "string": (10,), "name": (30, 10), "desc": (30, 10)}
 
 

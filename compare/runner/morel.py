@@ -25,7 +25,7 @@ def read(path):
 
 
 def stored_run():
-    """What the words of `args` print, on a copy of data/."""
+    """What the words of `args` print, on a copy of data/, and the status."""
     words = read(os.path.join(CRATE, "args")).split(b"\n")
     if words[-1] == b"":
         words.pop()
@@ -41,8 +41,8 @@ def main():
     if "--write" in words:
         words.remove("--write")
         with open(path, "wb") as file:
-            file.write(stored_run())
-    if stored_run() != read(path):
+            file.write(stored_run()[0])
+    if stored_run()[0] != read(path):
         print("crates/morel/stdout is not what the independent program prints")
         return 1
     print("crates/morel/stdout is what the independent program prints")
@@ -69,10 +69,12 @@ def damaged(chance, content):
 
 def command(chance, name, kind):
     if kind == "sii":
-        if chance.random() < 0.2:
+        if chance.random() < 0.3:
             alias = chance.choice((0, 1, 255, 256, 65_535, 65_536,
                                    chance.randrange(65_536)))
-            return ["alias", name, str(alias), "then", "sii", name]
+            spelled = chance.choice((str, hex, "0x{:04X}".format))(alias)
+            forced = ["force"] * chance.randrange(2)
+            return ["alias", name, spelled] + forced + ["then", "sii", name]
         return ["sii", name]
     if kind == "frame":
         return ["frame", name]
@@ -103,6 +105,17 @@ def difference(ours, theirs):
     return "one of them ends before the other"
 
 
+def ran(start, words, folder):
+    """What the program writes, and the status that it tells."""
+    with tempfile.NamedTemporaryFile() as status:
+        # A shell opens the descriptor that the status goes to.
+        done = subprocess.run(
+            ["sh", "-c", 'exec "$@" 3>"$0"', status.name] + start
+            + [PROGRAM, "--status"] + words, cwd=folder,
+            stdout=subprocess.PIPE, env=environment(), check=True)
+        return done.stdout, status.read().decode("ascii")
+
+
 def by_chance(count, seed):
     if not os.path.exists(PROGRAM):
         print("there is no target/bin/morel; `rt check morel` makes it")
@@ -123,13 +136,11 @@ def by_chance(count, seed):
                 tempfile.TemporaryDirectory() as theirs:
             words = batch(chance, originals, ours)
             shutil.copytree(ours, theirs, dirs_exist_ok=True)
-            done = subprocess.run(start + [PROGRAM] + words, cwd=ours,
-                                  stdout=subprocess.PIPE, env=environment(),
-                                  check=False)
-            said = morel.run([word.encode() for word in words], theirs)
-            if done.returncode or done.stdout != said:
-                print(f"after {asked} files, status {done.returncode}")
-                print(difference(done.stdout, said))
+            got, told = ran(start, words, ours)
+            said, status = morel.run([word.encode() for word in words], theirs)
+            if (got, told) != (said, f"{status}\n"):
+                print(f"after {asked} files, status {told!r}, not {status}")
+                print(difference(got, said))
                 return 1
             for name in os.listdir(ours):
                 if (read(os.path.join(ours, name))

@@ -125,7 +125,7 @@ def _desk():
 def kit_words():
     """As `rt` runs a program: the kit's loader and C library, and on another
     processor than x86-64 the kit's emulator."""
-    tools = os.path.join(_kit(), "on", platform.machine(), "toolchain")
+    tools = os.path.join(kit(), "on", platform.machine(), "toolchain")
     loader = os.path.join(tools, "lib", "ld-linux-x86-64.so.2")
     emulator = os.path.join(tools, "bin", "qemu-x86_64")
     if not os.path.exists(loader):
@@ -136,7 +136,7 @@ def kit_words():
     return ([emulator] if os.access(emulator, os.X_OK) else []) + words
 
 
-def _kit():
+def kit():
     rt = shutil.which("rt")
     beside = os.path.dirname(os.path.dirname(os.path.realpath(rt))) if rt else ""
     return os.environ.get("RATTLE_HOME", beside)

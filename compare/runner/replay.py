@@ -119,7 +119,7 @@ class Chosen:
             return
         self.seen.add(request)
         self.requests.append(request)
-        # Where the two differ, an entry says why ours is document 01's.
+        # Where the two differ, an entry says why ours is the rules'.
         name = "oracle" if rust == ours else "independent program"
         self.answers.append(rust if rust == ours else ours)
         self.whose[name] = self.whose.get(name, 0) + 1

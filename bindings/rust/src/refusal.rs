@@ -1,10 +1,11 @@
-//! The fourteen refusals, and what a code and a row say.
+//! The refusals, and what a code and a row say.
 use crate::sys::{ABSENT, GIVES};
 use std::error::Error;
 use std::fmt;
 
-/// Why a call refuses. Its [`number`](Refusal::number) never changes.
+/// Why a call refuses. Its [`number`](Refusal::number) never changes; numbers may be added, so that a `match` has an arm for the rest.
 #[derive(Clone, Copy, Debug, PartialEq, Eq, Hash)]
+#[non_exhaustive]
 pub enum Refusal {
     /// 1: an address rule is broken.
     Address,
@@ -39,6 +40,8 @@ pub enum Refusal {
     NoRoom,
     /// 14: a size, command, category number or state outside its bounds.
     BadArgument,
+    /// A number that this crate has no name for, as an archive that is newer than the crate may answer.
+    Other(u8),
 }
 
 impl Refusal {
@@ -63,6 +66,7 @@ impl Refusal {
             Refusal::BadFrame => 12,
             Refusal::NoRoom => 13,
             Refusal::BadArgument => 14,
+            Refusal::Other(code) => *code,
         }
     }
 
@@ -71,7 +75,7 @@ impl Refusal {
             1 => Refusal::Address,
             2 => Refusal::Overrun,
             3 => Refusal::NoCategory,
-            4 => Refusal::StringTooLong { room: row[0] as u16, stored: row[1] as u16 },
+            4 => Refusal::StringTooLong { room: length(row, 0), stored: length(row, 1) },
             5 => Refusal::Decode,
             6 => Refusal::Capacity,
             7 => Refusal::NotWritable,
@@ -82,9 +86,14 @@ impl Refusal {
             12 => Refusal::BadFrame,
             13 => Refusal::NoRoom,
             14 => Refusal::BadArgument,
-            _ => unreachable!("no export answers {code}"),
+            _ => Refusal::Other(code),
         }
     }
+}
+
+/// A length that refusal 4 has in the row.
+fn length(row: &[u64], at: usize) -> u16 {
+    row.get(at).map_or(0, |n| *n as u16)
 }
 
 impl fmt::Display for Refusal {
@@ -93,6 +102,7 @@ impl fmt::Display for Refusal {
             Refusal::StringTooLong { room, stored } => {
                 write!(f, "refusal 4: a string of {stored} bytes for a room of {room}")
             }
+            Refusal::Other(code) => write!(f, "refusal {code}"),
             other => write!(f, "refusal {}: {other:?}", other.number()),
         }
     }
@@ -113,5 +123,35 @@ pub(crate) fn found(code: u8, row: &[u64]) -> Result<Option<()>, Refusal> {
     match code {
         ABSENT => Ok(None),
         code => done(code, row).map(Some),
+    }
+}
+
+#[cfg(test)]
+mod tests {
+    use super::*;
+
+    #[test]
+    fn a_code_has_its_number() {
+        for code in 1..=u8::MAX {
+            assert_eq!(Refusal::of(code, &[7, 8]).number(), code);
+        }
+        assert_eq!(Refusal::of(4, &[7, 8]), Refusal::StringTooLong { room: 7, stored: 8 });
+        assert_eq!(Refusal::of(14, &[]), Refusal::BadArgument);
+    }
+
+    #[test]
+    fn an_unknown_code_is_an_error() {
+        for code in 15..=254 {
+            assert_eq!(done(code, &[]), Err(Refusal::Other(code)));
+            assert_eq!(found(code, &[]), Err(Refusal::Other(code)));
+        }
+        assert_eq!(done(ABSENT, &[]), Err(Refusal::Other(255)));
+        assert_eq!(found(ABSENT, &[]), Ok(None));
+        assert_eq!(Refusal::Other(15).to_string(), "refusal 15");
+    }
+
+    #[test]
+    fn a_row_without_lengths_has_none() {
+        assert_eq!(Refusal::of(4, &[]), Refusal::StringTooLong { room: 0, stored: 0 });
     }
 }

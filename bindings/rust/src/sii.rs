@@ -170,6 +170,14 @@ impl<'a> SubDeviceEeprom<'a> {
         Ok(there.map(|()| row[0] as u16..row[1] as u16))
     }
 
+    /// Whether all that the search for this category looks at, its headers and the end mark, and the category that it finds lie in the image.
+    /// Where it says `false`, bytes are missing and read as 0xFF.
+    pub fn category_inside(&self, category: CategoryType) -> Result<bool, Refusal> {
+        let mut row = [0; 1];
+        done(sys::category_inside(self.image, category as u16, &mut row), &row)?;
+        Ok(row[0] != 0)
+    }
+
     /// The category General; where there is none it is [`Refusal::NoCategory`].
     pub fn general(&self) -> Result<SiiGeneral, Refusal> {
         let mut row = [0; 14];

@@ -16,6 +16,13 @@ mod c {
         pub fn morel_mailbox_config(image: *const u8, image_len: usize, out: *mut u64, out_len: usize) -> u8;
         pub fn morel_size(image: *const u8, image_len: usize, out: *mut u64, out_len: usize) -> u8;
         pub fn morel_category(image: *const u8, image_len: usize, number: u16, out: *mut u64, out_len: usize) -> u8;
+        pub fn morel_category_inside(
+            image: *const u8,
+            image_len: usize,
+            number: u16,
+            out: *mut u64,
+            out_len: usize,
+        ) -> u8;
         pub fn morel_general(image: *const u8, image_len: usize, out: *mut u64, out_len: usize) -> u8;
         pub fn morel_find_string(
             image: *const u8,
@@ -101,8 +108,8 @@ mod c {
     }
 }
 
-// In each function below: the pointers and lengths are those of slices that are borrowed for the call, `&mut` ones alone, so the export's
-// slices are there and those that it may change overlap nothing. It has no other duty for its caller, and keeps no pointer.
+// In each function below: the pointers and lengths are those of slices that are borrowed for the call, `&mut` ones alone, so they are slices
+// as the header asks for. An export has no other duty for its caller, and keeps no pointer.
 
 pub fn crc(bytes: &[u8]) -> u8 {
     unsafe { c::morel_crc(bytes.as_ptr(), bytes.len()) }
@@ -130,6 +137,10 @@ pub fn size(image: &[u8], out: &mut [u64]) -> u8 {
 
 pub fn category(image: &[u8], number: u16, out: &mut [u64]) -> u8 {
     unsafe { c::morel_category(image.as_ptr(), image.len(), number, out.as_mut_ptr(), out.len()) }
+}
+
+pub fn category_inside(image: &[u8], number: u16, out: &mut [u64]) -> u8 {
+    unsafe { c::morel_category_inside(image.as_ptr(), image.len(), number, out.as_mut_ptr(), out.len()) }
 }
 
 pub fn general(image: &[u8], out: &mut [u64]) -> u8 {

@@ -1,4 +1,4 @@
-//! Each wrapper with good and bad input: document 01's bench cases, and numbers worked out by hand from its words.
+//! Each wrapper with good and bad input: the bench cases (docs/RULES.md), and numbers worked out by hand from the rules.
 use morelbarrel::*;
 
 fn image() -> Vec<u8> {
@@ -67,6 +67,11 @@ fn categories() {
     assert_eq!(eeprom.category(CategoryType::General), Ok(Some(144..162)));
     assert_eq!(eeprom.category(CategoryType::SyncManager), Ok(None));
     assert_eq!(eeprom.category_numbered(11), Err(Refusal::BadArgument));
+    assert_eq!(eeprom.category_inside(CategoryType::General), Ok(true));
+    assert_eq!(eeprom.category_inside(CategoryType::SyncManager), Ok(true));
+    assert_eq!(SubDeviceEeprom::new(&image[..161]).category_inside(CategoryType::General), Ok(false));
+    assert_eq!(SubDeviceEeprom::new(&image[..162]).category_inside(CategoryType::SyncManager), Ok(false));
+    assert_eq!(SubDeviceEeprom::new(TOO_LONG).category_inside(CategoryType::General), Err(Refusal::BadArgument));
     let mut empties = vec![0u8; 128 + 32 * 4];
     empties[128 + 31 * 4] = 10;
     assert_eq!(SubDeviceEeprom::new(&empties).category(CategoryType::Strings), Ok(None));

@@ -77,7 +77,7 @@ pub fn gives_some(value: Option<impl Into<u32>>) -> String {
     value.map_or("absent".into(), |value| gives(&[value.into()]))
 }
 
-/// Document 01's number for each error of the Rust. These are all that the originals can end in, so any other shows up as a difference.
+/// Our number (RULES, refusals) for each error of the Rust. These are all that the originals can end in, so any other shows up as a difference.
 pub fn refuses(error: Error) -> String {
     match error {
         Error::Eeprom(EepromError::SectionOverrun) => "refuses 2".into(),

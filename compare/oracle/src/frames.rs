@@ -121,15 +121,24 @@ impl Push {
     }
 }
 
-/// The Rust's handle has no place; a push lands where the used bytes ended.
-pub fn push(mut words: Words) -> Reply {
+/// The Rust's handle has no place; a push lands where the used bytes ended. The first so many of place, size, index and command are answered.
+fn pushed(mut words: Words, shown: usize) -> Reply {
     let (push, data, len_override) = (Push::read(&mut words)?, words.bytes()?, words.u16()?);
     words.end()?;
     let place = push.state.used as u32;
     push.answer(|frame, command| {
         let handle = frame.push_pdu(command, data.as_slice(), (len_override > 0).then_some(len_override))?;
-        Ok(gives(&[place, handle.alloc_size as u32]))
+        let values = [place, handle.alloc_size as u32, handle.pdu_idx.into(), handle.command_code.into()];
+        Ok(gives(&values[..shown]))
     })
+}
+
+pub fn push(words: Words) -> Reply {
+    pushed(words, 2)
+}
+
+pub fn handle(words: Words) -> Reply {
+    pushed(words, 4)
 }
 
 pub fn rest(mut words: Words) -> Reply {

@@ -89,6 +89,12 @@ pub fn mailbox(words: Words) -> Reply {
     }))
 }
 
+pub fn has_mailbox(words: Words) -> Reply {
+    let sii = only_image(words)?;
+    let answer = ask_async(|| sii.mailbox_config())?;
+    Ok(said(answer, |mailbox| vec![mailbox.has_mailbox().into()]))
+}
+
 pub fn general(words: Words) -> Reply {
     let sii = only_image(words)?;
     let answer = ask_async(|| sii.general())?;
@@ -135,6 +141,12 @@ pub fn sync_managers(words: Words) -> Reply {
     }))
 }
 
+pub fn usages(words: Words) -> Reply {
+    let sii = only_image(words)?;
+    let answer = ask_async(|| sii.sync_managers())?;
+    Ok(said(answer, |managers| list(&managers, |manager| [manager.usage_type() as u32])))
+}
+
 pub fn fmmus(words: Words) -> Reply {
     let sii = only_image(words)?;
     let answer = ask_async(|| sii.fmmus())?;
@@ -164,5 +176,12 @@ pub fn pdos(mut words: Words) -> Reply {
 /// What the Rust leaves unread of an image: it has no answer.
 pub fn unread(words: Words) -> Reply {
     only_image(words)?;
+    Err(Off::None)
+}
+
+/// Whether a search stays in the image: the Rust does not ask.
+pub fn not_asked(mut words: Words) -> Reply {
+    let (_, _) = (image(&mut words)?, words.u16()?);
+    words.end()?;
     Err(Off::None)
 }

@@ -4,7 +4,7 @@ from ..request import line
 from .tools import U8, U32, asked, around, near, number, ramp
 
 OVERHEAD = 12
-# The Rust has these, of the 0 to 14 that document 01 admits.
+# The Rust has these, of the 0 to 14 that are admitted.
 COMMANDS = (1, 2, 4, 5, 7, 8, 10, 11, 12, 14)
 
 
@@ -29,6 +29,7 @@ def first_pushes():
             area, data = b"\xd1" * size, ramp(length)
             for override in (0, 1, length, length + 1):
                 yield line("push", area, 0, 0, 0, 254, 7, 1, data, override)
+            yield line("handle", area, 0, 0, 0, size, 8, 1, data, 0)
             yield line("rest", area, 0, 0, 0, 255, 12, 0x0102_0304, data)
             yield line("canpush", size, 0, 0, 0, length)
 
@@ -60,8 +61,9 @@ def states():
 def commands():
     for command in around(0, 14, 255, most=255) + list(range(2, 13)):
         for address in (0, 1, 0x0130_0000, U32):
-            yield line("push", bytes(14), 0, 0, 0, 0, command, address,
-                       b"\x01\x02", 0)
+            for kind in ("push", "handle"):
+                yield line(kind, bytes(14), 0, 0, 0, 0, command, address,
+                           b"\x01\x02", 0)
             yield line("rest", bytes(14), 0, 0, 0, 0, command, address,
                        b"\x01\x02\x03")
     for length in around(2_035, 2_047, 65_535):
@@ -188,7 +190,8 @@ def pushed(rng, area, state, index):
     override = rng.choice((0, 0, 0, length, length + 1, number(rng)))
     if rng.random() < 0.9:
         override = min(override, max(0, free - 12))
-    return asked("push", area, *state, index, command, address, data, override)
+    kind = rng.choice(("push", "push", "handle"))
+    return asked(kind, area, *state, index, command, address, data, override)
 
 
 def marked(rng, area, state):
@@ -218,12 +221,12 @@ def broken(rng, area, state, index):
         state[place] = max(0, state[place] + step)
         if rng.random() < 0.2:
             state[place] = number(rng)
-    kind = rng.choice(("push", "rest", "canpush"))
+    kind = rng.choice(("push", "handle", "rest", "canpush"))
     data = rng.randbytes(rng.randint(0, 3))
     if kind == "canpush":
         return line(kind, len(area), *state, len(data))
     words = (area, *state, index, rng.choice(COMMANDS), 0, data)
-    return line(kind, *words, *([0] if kind == "push" else []))
+    return line(kind, *words, *([] if kind == "rest" else [0]))
 
 
 def chain(rng):

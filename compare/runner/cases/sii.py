@@ -5,15 +5,17 @@ from . import images
 from .images import NAMED, category, image
 from .tools import CHUNKS, around, number, ramp
 
-READ_OUTS = ("alias", "size", "identity", "mailbox", "general", "sms",
-             "fmmus", "fmmuex")
-HOLDS = {"general": 30, "fmmus": 40, "sms": 41, "fmmuex": 42}
+READ_OUTS = ("alias", "size", "identity", "mailbox", "hasmail", "general",
+             "physport", "physaddr", "sms", "usages", "fmmus", "fmmuex")
+HOLDS = {"general": 30, "physport": 30, "physaddr": 30, "fmmus": 40,
+         "sms": 41, "usages": 41, "fmmuex": 42}
 
 
 def small():
     yield from heads()
     yield from largest()
     yield from searches()
+    yield from insides()
     yield from lists()
     yield from generals()
 
@@ -26,6 +28,8 @@ def largest():
         for kind in READ_OUTS:
             yield line(kind, data, 4)
         yield line("category", data, 8, 41)
+        yield line("inside", data, 4, 41)
+        yield line("inside", data, 8, 10)
         yield line("pdos", data, 8, 50)
         yield line("string", data, 4, 0, b"\xa5")
         yield line("string", data, 4, 1, b"\xa5")
@@ -41,8 +45,12 @@ def largest():
 def heads():
     """Images that end within what is read, and every flag."""
     for length in range(0, 131):
-        for kind in ("alias", "size", "identity", "mailbox"):
+        for kind in ("alias", "size", "identity", "mailbox", "hasmail"):
             yield line(kind, ramp(length), CHUNKS[length % 2])
+    for sizes in range(8):
+        data = bytearray(58)
+        data[50], data[55], data[56] = sizes & 1, sizes & 2, sizes & 4
+        yield line("hasmail", data, 4)
     for protocols in range(256):
         data = bytearray(ramp(128))
         data[56] = protocols
@@ -86,6 +94,28 @@ def long_categories():
             yield line(kind, data, 8)
 
 
+def insides():
+    """Images cut at every byte, with a mark and without one; searches that end
+    at the 32nd empty header, or past the last word."""
+    parts = (category(10, b"\x01\x02\x03\x04"), category(41, bytes(8)),
+             category(30, b""), category(50, bytes(2)))
+    for end in (b"\xff\xff", b"\xff\xff\x00\x00", b""):
+        data = image(*parts, end=end)
+        for length in range(120, len(data) + 2):
+            cut = (data + bytes(2))[:length]
+            for number_ in (10, 30, 41, 50, 60, 11):
+                yield line("inside", cut, CHUNKS[length % 2], number_)
+    for count in range(29, 34):
+        data = image(category(0, b"") * count, category(10, b""))
+        for length in range(len(data) - 8, len(data) + 1):
+            yield line("inside", data[:length], 4, 10)
+            yield line("inside", data[:length], 8, 30)
+    for length in around(0, 32_767 - 0x42, 65_535 - 0x42, 65_535):
+        for kind in (10, 0, 0xFFFF):
+            data = image(category(kind, b"", length), end=b"")
+            yield line("inside", data, 8, 10)
+
+
 def lists():
     for count in range(0, 11):
         for cut in range(0, 9):
@@ -96,6 +126,7 @@ def lists():
             record = bytearray(8)
             record[place] = value
             yield line("sms", image(category(41, record)), 8)
+            yield line("usages", image(category(41, record)), 4)
         yield line("fmmus", image(category(40, bytes([value, 1]))), 4)
     yield from limits()
     yield from pdos()
@@ -140,9 +171,16 @@ def generals():
             record[place] = value
             yield line("general", image(category(30, record)), 4)
     for length in range(0, 24, 2):
-        yield line("general", image(category(30, bytes(length)), end=b""), 8)
-        yield line("general", image(category(30, bytes(length), 9),
-                                    end=b""), 8)
+        for kind in ("general", "physport", "physaddr"):
+            yield line(kind, image(category(30, bytes(length)), end=b""), 8)
+            yield line(kind, image(category(30, bytes(length), 9), end=b""), 8)
+    for place in range(12, 22):
+        for value in range(0, 256, 5):
+            record = bytearray(ramp(32))
+            record[place] = value
+            data = image(category(30, record))
+            yield line("physport", data, 4)
+            yield line("physaddr", data, 8)
 
 
 def some(rng):
@@ -157,6 +195,8 @@ def some(rng):
         yield line(kind, data, rng.choice(CHUNKS))
     for _ in range(1 if tall else 2):
         yield line("category", data, rng.choice(CHUNKS), sought(rng))
+    cut = rng.choice((len(data), rng.randint(0, len(data))))
+    yield line("inside", data[:cut], rng.choice(CHUNKS), sought(rng))
     yield line("pdos", data, rng.choice(CHUNKS), direction)
     if not tall or rng.random() < 0.2:
         yield line("setalias", data[:rng.choice((14, 15, 16, 40, 70_000))],

@@ -3,17 +3,18 @@ use mathlib.Core.Path.{_≡_, refl, ap}
 use mathlib.Core.Bool.{true, false≢true}
 use mathlib.Core.List.{List, [], _∷_}
 use Prim.Native.Nat.{ℕ}
+use lib.ListN.{drop}
 use borrow.Author.Tests.{eqb-true}
 use Rattle.refusal.specs.Said.{Said, gives, absent, refuses, on2, on3}
 use Rattle.refusal.proofs.Tests.{both}
 use Rattle.wire.specs.Bytes.{byteAt, span, overlay}
-use Rattle.crc.specs.Crc.{bits, bitsOf, broughtDown, remainder, started, crcOf}
+use Rattle.crc.proofs.Bench.{crc-zeros, crc-digits}
 use Rattle.eeprom.specs.Image.{within, fine}
-use Rattle.eeprom.specs.Range.{newSaid, byteIn, byteSaid, skipIn, skipSaid}
+use Rattle.eeprom.specs.Range.{newSaid, byteIn, byteSaid, skipIn, skipSaid, exactSaid}
 use Rattle.category.specs.Category.{among, counted, decided, stepped, searchOver, searchFrom, searched, categorySaid}
-use Rattle.strings.specs.Strings.{stringPast, passedOne, passed, fitted, stringHere, stringBehind, stringIn, soughtAt, ascii, shown, textSaid, fits, bounded, textFor, stringSaid}
+use Rattle.strings.specs.Strings.{stringPast, passedOne, passed, onExact, fitted, stringHere, stringBehind, stringIn, soughtAt, ascii, shown, textSaid, fits, bounded, textFor, stringSaid}
 use Rattle.ports.specs.Ports.{those, folded, activePorts, fresh, timesSet}
-use Rattle.ports.specs.Delays.{largest, smallest, spread, delaySaid, total, totalSaid, gap, gaps, sumSaid, intermediateSaid}
+use Rattle.ports.specs.Delays.{largest, smallest, breadth, delaySaid, total, totalSaid, gap, gaps, sumSaid, intermediateSaid}
 use Rattle.cuts.specs.Measure.{cap}
 use Rattle.created_frame.specs.Frame.{sound, acceptable, room, more, marked, afterOpen, pushed, pushedBuilder, pushedNext, afterPush, restBuilder, restNext}
 use Rattle.created_frame.specs.Built.{run}
@@ -57,17 +58,23 @@ agreed (c ∷ cs) e =
 
 -- ---- the test holds
 
-computed : agrees cases ≡ true
+-- .. with any two numbers for the checksums, if they are those measured: crc's laws say that they are, and the division stays shut
+with-sums : (a b : ℕ) → a ≡ 0x30 → b ≡ 0xFB
+    → agrees (record { says = gives (a ∷ []); measured = gives (0x30 ∷ []) } ∷ record { says = gives (b ∷ []); measured = gives (0xFB ∷ []) } ∷ drop 2 cases) ≡ true
 unfolding
     agrees same sameList cases emptiesThenStrings twoStrings four three built
-    on2 on3 byteAt span overlay bits bitsOf broughtDown remainder started crcOf
-    within fine newSaid byteIn byteSaid skipIn skipSaid
+    on2 on3 byteAt span overlay
+    within fine newSaid byteIn byteSaid skipIn skipSaid exactSaid
     among counted decided stepped searchOver searchFrom searched categorySaid
-    stringPast passedOne passed fitted stringHere stringBehind stringIn soughtAt ascii shown textSaid fits bounded textFor stringSaid
-    those folded activePorts fresh timesSet largest smallest spread delaySaid total totalSaid gap gaps sumSaid intermediateSaid
+    stringPast passedOne passed onExact fitted stringHere stringBehind stringIn soughtAt ascii shown textSaid fits bounded textFor stringSaid
+    those folded activePorts fresh timesSet largest smallest breadth delaySaid total totalSaid gap gaps sumSaid intermediateSaid
     sound acceptable room more marked afterOpen pushed pushedBuilder pushedNext afterPush restBuilder restNext run
     cap rowFrom lawful roomIn spreadOf
-computed = refl
+with-sums a b p q = rw (p, q) refl
+
+computed : agrees cases ≡ true
+unfolding cases
+computed = with-sums _ _ crc-zeros crc-digits
 
 -- THE STATEMENT: in every case of the table the definitions say what was measured
 pub measured : Agreed cases

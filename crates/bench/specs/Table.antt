@@ -1,4 +1,4 @@
--- THE TABLE: document 01, 'Measured on the bench', each case marked P. A row sets what the definitions say beside what was measured. Definitions only.
+-- THE TABLE: RULES, bench, each case marked P. A row sets what the definitions say beside what was measured. Definitions only.
 use Prim.Native.Nat.{ℕ, _+_, _*_}
 use mathlib.Core.Bool.{true, false}
 use mathlib.Core.List.{List, [], _∷_, _++_}

@@ -1,108 +1,179 @@
--- The search finds the first category of its number: what stands at the header it looks at is kept true from header to header,
--- and from a first category back to the first header each header is passed over.
-use Prim.Native.Nat.{ℕ, zero, suc, _+_, _*_, _≤_, _<_}
+-- Each answer of a search has a definition that speaks of no search. A header of its kind is where the search ends, which gives one way;
+-- and the header at which it ends is of one of the three kinds, which gives the other.
+use Prim.Native.Nat.{ℕ, _+_, _*_, _%_, _≤_, _<_}
 use native.Mathlib.Omega.{arith}
 use mathlib.Core.Path.{_≡_, refl, sym, ap, _∙_}
 use mathlib.Core.List.{List, [], _∷_}
-use mathlib.Core.Bool.{Bool, true, false}
-use borrow.Author.Tests.{ltb-false, leb-true, leb-false, eqb-true}
-use lib.Dec.{ltb, leb, eqb}
+use mathlib.Core.Bool.{Bool, true, false, false≢true}
+use borrow.Author.Tests.{leb-true, leb-false}
+use lib.Dec.{leb}
 use Rattle.refusal.specs.Said.{Said, gives, absent, refuses, pick}
-use Rattle.eeprom.specs.Image.{endMost}
+use Rattle.eeprom.specs.Image.{endMost, within}
 use Rattle.eeprom.specs.Range.{newSaid}
 use Rattle.eeprom.proofs.Laws.{new-gives, new-refuses}
-use Rattle.category.specs.Layout.{firstHeader, headerWords, typeAt, lengthAt, endMark, wordMost}
-use Rattle.category.specs.Category.{emptyMost, counted, Stepped, done, next, decided, stepped, follow, searchOver, searchFrom, searched}
-use Rattle.category.specs.First.{HeaderAt, first, behind, FirstOf}
-use Rattle.category.proofs.Laws.{Passes, step-passes, search-match, search-other, search-first, counted-more}
+use Rattle.category.specs.Layout.{headerWords, typeAt, lengthAt, endMark}
+use Rattle.category.specs.Category.{numbers, among, done, stepped, searched, categorySaid}
+use Rattle.category.specs.First.{Followed, FirstOf, NoneOf, NoFurther, past, empty, mark, LeadsPast, TooFar, over, above}
+use Rattle.category.specs.Inside.{lastHeader}
+use Rattle.category.proofs.Laws.{step-match, step-mark, step-past, step-empty, step-over}
+use Rattle.category.proofs.Ends.{search-ends, reached-done, Why, none, named, leads, step-why}
 
--- ---- a range that is given
+-- ---- a search that ends at a header of a kind
 
-range-gives : (w n pos end : ℕ) → pos ≡ 2 * w → end ≡ pos + 2 * n → end ≤ endMost → newSaid w n ≡ gives (pos ∷ end ∷ [])
-range-gives w n pos end p e h = new-gives w n (omega arith) ∙ rw (e, p)
+module _ (image : List ℕ) (number : ℕ) where
+  first-ends : (pos end : ℕ) (f : FirstOf image number pos end) → (searched image number ≡ gives (pos ∷ end ∷ [])) × (f .word ≡ lastHeader image number)
+  first-ends pos end f =
+      let w = f .word in
+      let n = lengthAt image w in
+      let m = step-match image number w (f .before) (f .followed .inside) (f .followed .few) (f .named) in
+      let r = reached-done image number w (f .before) (newSaid (w + headerWords) n) (f .header) (sym m) in
+      (sym (r .0) ∙ new-gives (w + headerWords) n (omega (arith, f .starts, f .ends, f .bounded)) ∙ rw (f .ends, f .starts), r .1)
 
-range-given : (w n pos end : ℕ) → gives (pos ∷ end ∷ []) ≡ newSaid w n → (pos ≡ 2 * w) × (end ≡ pos + 2 * n)
-range-given w n pos end p = go (leb (2 * w + 2 * n) endMost) refl
-  where
-    go : (t : Bool) → leb (2 * w + 2 * n) endMost ≡ t → (pos ≡ 2 * w) × (end ≡ pos + 2 * n)
-    go true h =
-        let q = p ∙ new-gives w n (leb-true (2 * w + 2 * n) endMost h) in
-        let a : pos ≡ 2 * w = cc in
-        let b : end ≡ 2 * w + 2 * n = cc in
-        (a, omega arith)
-    go false h =
-        let q = p ∙ new-refuses w n (leb-false (2 * w + 2 * n) endMost h) in
-        let z : _≡_ {A = ℕ} 0 1 = cc in
-        absurd (omega arith)
-
--- ---- a first category is found
-
--- the search goes on from each header that stands behind others
-reaches : (image : List ℕ) (number w e : ℕ) → HeaderAt image number w e → w ≤ wordMost → e < emptyMost → searchFrom image number w e ≡ searched image number
-reaches image number _ _ first i f = search-first image number
-reaches image number _ _ (behind w e h n m) i f =
-    let more = counted-more (lengthAt image w) e in
-    let p : Passes image number w e (w + headerWords + lengthAt image w) (counted (lengthAt image w) e) =
-    record { other = n; unmarked = m; there = refl; inside = i; count = refl; few = f } in
-    sym (search-other image number w e _ _ p) ∙ reaches image number w e h (omega arith) (omega arith)
-
-pub first-found : (image : List ℕ) (number pos end : ℕ) → end ≤ endMost → FirstOf image number pos end → searched image number ≡ gives (pos ∷ end ∷ [])
-first-found image number pos end i f =
-    let w = f .word in
-    let r = reaches image number w (f .before) (f .header) (omega (arith, f .inside)) (omega (arith, f .few, counted-more (lengthAt image w) (f .before))) in
-    sym r ∙ search-match image number w (f .before) (f .inside) (f .few) (f .named) ∙ range-gives (w + headerWords) (lengthAt image w) pos end (f .starts) (f .ends) i
-
--- ---- what is found is a first category
-
--- a header whose decision gives a range passed the first two tests and is of the number sought
-gives-match : (l : List ℕ) (t₁ t₂ t₃ t₄ t₅ : Bool) (s : Said) (a b : ℕ) →
-    done (gives l) ≡ pick t₁ (done absent) (pick t₂ (done absent) (pick t₃ (done s) (pick t₄ (done absent) (pick t₅ (done (refuses 1 [])) (next a b))))) →
-    (t₁ ≡ false) × (t₂ ≡ false) × (t₃ ≡ true) × (gives l ≡ s)
-gives-match l true t₂ t₃ t₄ t₅ s a b p = (cc, cc, cc, cc)
-gives-match l false true t₃ t₄ t₅ s a b p = (cc, cc, cc, cc)
-gives-match l false false true t₄ t₅ s a b p = (refl, refl, refl, cc)
-gives-match l false false false true t₅ s a b p = (cc, cc, cc, cc)
-gives-match l false false false false true s a b p = (cc, cc, cc, cc)
-gives-match l false false false false false s a b p = (cc, cc, cc, cc)
-
-module _ (image : List ℕ) (number pos end : ℕ) where
-  found-here : (w e : ℕ) → HeaderAt image number w e → done (gives (pos ∷ end ∷ [])) ≡ stepped image number w e → FirstOf image number pos end
-  unfolding stepped decided
-  found-here w e h p = go (typeAt image w) (lengthAt image w) refl refl p
+  none-ends : (number ≡ endMark → ⊥) → NoneOf image number → searched image number ≡ absent
+  none-ends n f = sym (reached-done image number (f .word) (f .before) absent (f .header) (sym (go (f .word) (f .before) (f .why))) .0)
     where
-      go : (type len : ℕ) → typeAt image w ≡ type → lengthAt image w ≡ len →
-          done (gives (pos ∷ end ∷ [])) ≡ decided type len number (w + headerWords) (counted len e) → FirstOf image number pos end
-      go type len t l p =
-          let q = gives-match (pos ∷ end ∷ []) (ltb wordMost (w + 2)) (leb emptyMost (counted len e)) (eqb type number) (eqb type endMark) (ltb wordMost (w + 2 + len)) _ _ _ p in
-          let r = range-given (w + headerWords) len pos end (q .3) in
-          record {
-            word = w;
-            before = e;
-            header = h;
-            named = t ∙ eqb-true type number (q .2);
-            few = rw l (leb-false emptyMost (counted len e) (q .1));
-            inside = ltb-false wordMost (w + 2) (q .0);
-            starts = r .0;
-            ends = rw l (r .1);
-          }
+      go : (w e : ℕ) → NoFurther image w e → stepped image number w e ≡ done absent
+      go w e (past h) = step-past image number w e h
+      go w e (empty h) = step-empty image number w e h
+      go w e (mark h) = step-mark image number w e n h
 
-  found-behind : (w e w′ e′ : ℕ) → HeaderAt image number w e → next w′ e′ ≡ stepped image number w e → HeaderAt image number w′ e′
-  found-behind w e w′ e′ h p =
-      let q = step-passes image number w e w′ e′ p in
-      rw (q .there, q .count) (behind w e h (q .other) (q .unmarked))
-
-  found-over : (f w e : ℕ) → HeaderAt image number w e → searchOver f image number w e ≡ gives (pos ∷ end ∷ []) → FirstOf image number pos end
-  unfolding searchOver
-  found-over zero w e h p = let z : _≡_ {A = ℕ} 0 1 = cc in absurd (omega arith)
-  found-over (suc f) w e h p =
-      go (stepped image number w e) refl p (λ w′ e′ q r. found-over f w′ e′ (found-behind w e w′ e′ h q) r)
+  past-ends : LeadsPast image number → searched image number ≡ refuses 1 []
+  past-ends f = sym (reached-done image number (f .word) (f .before) (refuses 1 []) (f .header) (sym (go (f .why))) .0)
     where
-      go : (s : Stepped) → s ≡ stepped image number w e → follow s (searchOver f image number) ≡ gives (pos ∷ end ∷ []) →
-          ((w′ e′ : ℕ) → next w′ e′ ≡ stepped image number w e → searchOver f image number w′ e′ ≡ gives (pos ∷ end ∷ []) → FirstOf image number pos end) →
-          FirstOf image number pos end
-      go (done s) q r ih = found-here w e h (ap done (sym r) ∙ q)
-      go (next w′ e′) q r ih = ih w′ e′ q r
+      go : TooFar image number (f .word) → stepped image number (f .word) (f .before) ≡ done (refuses 1 [])
+      go (over n m h) = step-over image number (f .word) (f .before) (f .followed .inside) (f .followed .few) n m h
+      go (above t h) =
+          step-match image number (f .word) (f .before) (f .followed .inside) (f .followed .few) t
+          ∙ ap done (new-refuses (f .word + headerWords) (lengthAt image (f .word)) h)
 
-  pub found-first : searched image number ≡ gives (pos ∷ end ∷ []) → FirstOf image number pos end
-  unfolding searched searchFrom
-  found-first p = found-over (suc wordMost) firstHeader 0 first p
+-- ---- every search ends so
+
+-- an answer, and why
+pub data Answer (image : List ℕ) (number : ℕ) (s : Said) : Type 0 where
+  found : (pos end : ℕ) → FirstOf image number pos end → s ≡ gives (pos ∷ end ∷ []) → Answer image number s
+  nowhere : NoneOf image number → s ≡ absent → Answer image number s
+  too-far : LeadsPast image number → s ≡ refuses 1 [] → Answer image number s
+
+module _ (image : List ℕ) (number : ℕ) where
+  search-answer : Answer image number (searched image number)
+  search-answer =
+      let e = search-ends image number in
+      go (searched image number) (step-why image number (lastHeader image number) (e .before) (searched image number) (e .decides))
+    where
+      leads-past : Followed image (lastHeader image number) (search-ends image number .before) → TooFar image number (lastHeader image number) → LeadsPast image number
+      leads-past f why =
+          record { word = lastHeader image number; before = search-ends image number .before; header = search-ends image number .header; followed = f; why = why }
+
+      ranged : (t : Bool) (s : Said) (v n : ℕ) → v ≡ lastHeader image number → n ≡ lengthAt image (lastHeader image number) → leb (2 * (v + 2) + 2 * n) endMost ≡ t →
+          Followed image (lastHeader image number) (search-ends image number .before) → typeAt image (lastHeader image number) ≡ number → s ≡ newSaid (v + 2) n → Answer image number s
+      ranged true s v n p q h f t r =
+          let k = leb-true (2 * (v + 2) + 2 * n) endMost h in
+          found (2 * (v + 2)) (2 * (v + 2) + 2 * n)
+          (record {
+            word = lastHeader image number;
+            before = search-ends image number .before;
+            header = search-ends image number .header;
+            followed = f;
+            named = t;
+            starts = rw p;
+            ends = rw q;
+            bounded = k;
+          })
+          (r ∙ new-gives (v + 2) n k)
+      ranged false s v n p q h f t r =
+          let k = leb-false (2 * (v + 2) + 2 * n) endMost h in
+          too-far (leads-past f (above t (rw (← q, ← p) k))) (r ∙ new-refuses (v + 2) n k)
+
+      go : (s : Said) → Why image number (lastHeader image number) (search-ends image number .before) s → Answer image number s
+      go s (none h q) =
+          nowhere (record { word = lastHeader image number; before = search-ends image number .before; header = search-ends image number .header; why = h }) q
+      go s (named f t q) = ranged _ s (lastHeader image number) (lengthAt image (lastHeader image number)) refl refl refl f t q
+      go s (leads f n m h q) = too-far (leads-past f (over n m h)) q
+
+-- ---- what `category` says
+
+-- the image is not too long, and the number may be sought
+pub record Asked (image : List ℕ) (number : ℕ) : Type 0 where
+  pub short : within image ≡ true
+  pub known : among number numbers ≡ true
+
+-- the mark's type is none of the numbers
+pub unmarked : (number : ℕ) → among number numbers ≡ true → number ≡ endMark → ⊥
+unfolding among
+unmarked number k e = false≢true (sym (ap (λ (n : ℕ). among n numbers) e) ∙ k)
+
+module _ (image : List ℕ) (number : ℕ) where
+  pub asked-says : Asked image number → categorySaid image number ≡ searched image number
+  unfolding categorySaid
+  asked-says a = rw (a .short, a .known)
+
+  -- what is not 14 was asked
+  pub says-asked : (s : Said) → categorySaid image number ≡ s → (s ≡ refuses 14 [] → ⊥) → Asked image number
+  unfolding categorySaid
+  says-asked s p never = go (within image) (among number numbers) refl refl p
+    where
+      go : (a b : Bool) → within image ≡ a → among number numbers ≡ b → pick a (pick b (searched image number) (refuses 14 [])) (refuses 14 []) ≡ s → Asked image number
+      go true true w k p = record { short = w; known = k }
+      go true false w k p = absurd (never (sym p))
+      go false b w k p = absurd (never (sym p))
+
+  module _ (a : Asked image number) where
+    -- one of the three
+    pub category-answer : Answer image number (categorySaid image number)
+    category-answer = rw (asked-says a) (search-answer image number)
+
+    -- a range if it is the first category of the number, absent if there is none, 1 if it leads past
+    pub first-found : (pos end : ℕ) → FirstOf image number pos end → categorySaid image number ≡ gives (pos ∷ end ∷ [])
+    first-found pos end f = asked-says a ∙ first-ends image number pos end f .0
+
+    pub none-absent : NoneOf image number → categorySaid image number ≡ absent
+    none-absent f = asked-says a ∙ none-ends image number (unmarked number (a .known)) f
+
+    pub past-refused : LeadsPast image number → categorySaid image number ≡ refuses 1 []
+    past-refused f = asked-says a ∙ past-ends image number f
+
+  -- .. and only then
+  pub found-first : (pos end : ℕ) → categorySaid image number ≡ gives (pos ∷ end ∷ []) → FirstOf image number pos end
+  found-first pos end p = go (categorySaid image number) p (category-answer (says-asked _ p (λ q. (let z : _≡_ {A = ℕ} 0 1 = cc in omega arith))))
+    where
+      go : (s : Said) → s ≡ gives (pos ∷ end ∷ []) → Answer image number s → FirstOf image number pos end
+      go s p (found i j f q) =
+          let a : pos ≡ i = cc in
+          let b : end ≡ j = cc in
+          rw (a, b) f
+      go s p (nowhere f q) = let z : _≡_ {A = ℕ} 0 1 = cc in absurd (omega arith)
+      go s p (too-far f q) = let z : _≡_ {A = ℕ} 0 1 = cc in absurd (omega arith)
+
+  pub absent-none : categorySaid image number ≡ absent → NoneOf image number
+  absent-none p = go (categorySaid image number) p (category-answer (says-asked _ p (λ q. (let z : _≡_ {A = ℕ} 0 1 = cc in omega arith))))
+    where
+      go : (s : Said) → s ≡ absent → Answer image number s → NoneOf image number
+      go s p (found i j f q) = let z : _≡_ {A = ℕ} 0 1 = cc in absurd (omega arith)
+      go s p (nowhere f q) = f
+      go s p (too-far f q) = let z : _≡_ {A = ℕ} 0 1 = cc in absurd (omega arith)
+
+  pub refused-past : categorySaid image number ≡ refuses 1 [] → LeadsPast image number
+  refused-past p = go (categorySaid image number) p (category-answer (says-asked _ p (λ q. (let z : _≡_ {A = ℕ} 1 14 = cc in omega arith))))
+    where
+      go : (s : Said) → s ≡ refuses 1 [] → Answer image number s → LeadsPast image number
+      go s p (found i j f q) = let z : _≡_ {A = ℕ} 0 1 = cc in absurd (omega arith)
+      go s p (nowhere f q) = let z : _≡_ {A = ℕ} 0 1 = cc in absurd (omega arith)
+      go s p (too-far f q) = f
+
+-- the first category's header is the last that is looked at
+pub first-last : (image : List ℕ) (number pos end : ℕ) (f : FirstOf image number pos end) → f .word ≡ lastHeader image number
+first-last image number pos end f = first-ends image number pos end f .1
+
+-- ---- the range that is found
+
+-- what a call on a range asks
+pub record Readable (image : List ℕ) (end : ℕ) : Type 0 where
+  pub short : within image ≡ true
+  pub even : end % 2 ≡ 0
+  pub last : end ≤ endMost
+
+pub category-readable : (image : List ℕ) (number pos end : ℕ) → categorySaid image number ≡ gives (pos ∷ end ∷ []) → Readable image end
+category-readable image number pos end p =
+    let a = says-asked image number _ p (λ q. (let z : _≡_ {A = ℕ} 0 1 = cc in omega arith)) in
+    let f = found-first image number pos end p in
+    record { short = a .short; even = omega (arith, f .starts, f .ends); last = f .bounded }

@@ -5,12 +5,14 @@ use native.Mathlib.Omega.{arith}
 use mathlib.Core.Path.{_≡_, refl, sym, _∙_}
 use mathlib.Core.List.{List, []}
 use mathlib.Core.Bool.{Bool, true, false}
-use borrow.Author.Tests.{lt-ltb, le-ltb, lt-leb, eq-eqb, ne-eqb, ltb-false, leb-false, eqb-false}
+use borrow.Author.Tests.{lt-ltb, le-ltb, le-leb, lt-leb, eq-eqb, ne-eqb, ltb-false, leb-false, eqb-false}
 use lib.Dec.{ltb, leb, eqb}
 use Rattle.refusal.specs.Said.{Said, absent, refuses, pick}
 use Rattle.eeprom.specs.Range.{newSaid}
 use Rattle.category.specs.Layout.{firstHeader, headerWords, typeAt, lengthAt, endMark, wordMost}
 use Rattle.category.specs.Category.{emptyMost, counted, Stepped, done, next, decided, stepped, follow, searchOver, searchFrom, searched}
+use Rattle.category.specs.First.{Passes}
+use Rattle.category.specs.Inside.{onward, lastOver, lastFrom, lastHeader}
 
 -- ---- the count of empty headers
 
@@ -34,15 +36,6 @@ counted-more len e = go (eqb len 0)
 
 -- ---- what one header decides
 
--- the header at w, before which there are e empty ones, is passed over, and the next stands at w′ with e′ before it
-pub record Passes (image : List ℕ) (number w e w′ e′ : ℕ) : Type 0 where
-  pub other : typeAt image w ≡ number → ⊥
-  pub unmarked : typeAt image w ≡ endMark → ⊥
-  pub there : w′ ≡ w + headerWords + lengthAt image w
-  pub inside : w′ ≤ wordMost
-  pub count : e′ ≡ counted (lengthAt image w) e
-  pub few : e′ < emptyMost
-
 -- each test before the last failed, and so did the last
 on-all : {w e : ℕ} (t₁ t₂ t₃ t₄ t₅ : Bool) (s : Said) (a b : ℕ) →
     next w e ≡ pick t₁ (done absent) (pick t₂ (done absent) (pick t₃ (done s) (pick t₄ (done absent) (pick t₅ (done (refuses 1 [])) (next a b))))) →
@@ -64,6 +57,19 @@ module _ (type len number body e : ℕ) where
   decided-other i f n m =
       let b : body ≤ wordMost = omega arith in
       rw (le-ltb wordMost body b, lt-leb emptyMost e f, ne-eqb type number n, ne-eqb type endMark m, le-ltb wordMost (body + len) i)
+
+  decided-over : body ≤ wordMost → e < emptyMost → (type ≡ number → ⊥) → (type ≡ endMark → ⊥) → wordMost < body + len → decided type len number body e ≡ done (refuses 1 [])
+  unfolding decided
+  decided-over i f n m h =
+      rw (le-ltb wordMost body i, lt-leb emptyMost e f, ne-eqb type number n, ne-eqb type endMark m, lt-ltb wordMost (body + len) h)
+
+  decided-empty : emptyMost ≤ e → decided type len number body e ≡ done absent
+  unfolding decided
+  decided-empty h = rw (le-leb emptyMost e h) (go (ltb wordMost body))
+    where
+      go : (t : Bool) → pick t (done absent) (done absent) ≡ done absent
+      go true = refl
+      go false = refl
 
   decided-mark : (number ≡ endMark → ⊥) → type ≡ endMark → decided type len number body e ≡ done absent
   unfolding decided
@@ -95,7 +101,7 @@ module _ (image : List ℕ) (number w e : ℕ) where
           }
 
   -- a header of the number sought
-  step-match : w + headerWords ≤ wordMost → counted (lengthAt image w) e < emptyMost → typeAt image w ≡ number →
+  pub step-match : w + headerWords ≤ wordMost → counted (lengthAt image w) e < emptyMost → typeAt image w ≡ number →
       stepped image number w e ≡ done (newSaid (w + headerWords) (lengthAt image w))
   unfolding stepped
   step-match i f t = decided-match (typeAt image w) (lengthAt image w) number (w + headerWords) (counted (lengthAt image w) e) i f t
@@ -108,22 +114,32 @@ module _ (image : List ℕ) (number w e : ℕ) where
       (decided-other (typeAt image w) (lengthAt image w) number (w + headerWords) (counted (lengthAt image w) e) (omega (arith, p .there, p .inside)) (omega (arith, p .count, p .few)) (p .other) (p .unmarked))
 
   -- the mark behind the last category
-  step-mark : (number ≡ endMark → ⊥) → typeAt image w ≡ endMark → stepped image number w e ≡ done absent
+  pub step-mark : (number ≡ endMark → ⊥) → typeAt image w ≡ endMark → stepped image number w e ≡ done absent
   unfolding stepped
   step-mark n t = decided-mark (typeAt image w) (lengthAt image w) number (w + headerWords) (counted (lengthAt image w) e) n t
+
+  -- past the last word there is no body
+  pub step-past : wordMost < w + headerWords → stepped image number w e ≡ done absent
+  unfolding stepped decided
+  step-past h = rw (lt-ltb wordMost (w + headerWords) h)
+
+  -- the 32nd empty header
+  pub step-empty : emptyMost ≤ counted (lengthAt image w) e → stepped image number w e ≡ done absent
+  unfolding stepped
+  step-empty h = decided-empty (typeAt image w) (lengthAt image w) number (w + headerWords) (counted (lengthAt image w) e) h
+
+  -- a length that leads past the last word
+  pub step-over : w + headerWords ≤ wordMost → counted (lengthAt image w) e < emptyMost → (typeAt image w ≡ number → ⊥) → (typeAt image w ≡ endMark → ⊥) →
+      wordMost < w + headerWords + lengthAt image w → stepped image number w e ≡ done (refuses 1 [])
+  unfolding stepped
+  step-over i f n m h =
+      decided-over (typeAt image w) (lengthAt image w) number (w + headerWords) (counted (lengthAt image w) e) i f n m h
 
 -- ---- the search
 
 same : (s : Stepped) (a b : ℕ → ℕ → Said) → ((w e : ℕ) → next w e ≡ s → a w e ≡ b w e) → follow s a ≡ follow s b
 same (done s) a b h = refl
 same (next w e) a b h = h w e refl
-
--- past the last word there is no header
-step-past : (image : List ℕ) (number w e : ℕ) → wordMost < w → stepped image number w e ≡ done absent
-unfolding stepped decided
-step-past image number w e h =
-    let k : wordMost < w + 2 = omega arith in
-    rw (lt-ltb _ _ k)
 
 enough : (image : List ℕ) (number f g w e : ℕ) → wordMost < w + f → wordMost < w + g → searchOver f image number w e ≡ searchOver g image number w e
 unfolding searchOver
@@ -143,6 +159,28 @@ search-step image number w e =
     let q = step-passes image number w e w′ e′ p in
     enough image number wordMost (suc wordMost) w′ e′ (omega (arith, q .there)) (omega (arith, q .there)))
 
+-- .. and so does its last header
+onward-same : (v : ℕ) (s : Stepped) (a b : ℕ → ℕ → ℕ) → ((w e : ℕ) → next w e ≡ s → a w e ≡ b w e) → onward v s a ≡ onward v s b
+onward-same v (done s) a b h = refl
+onward-same v (next w e) a b h = h w e refl
+
+last-enough : (image : List ℕ) (number f g w e : ℕ) → wordMost < w + f → wordMost < w + g → lastOver f image number w e ≡ lastOver g image number w e
+unfolding lastOver
+last-enough image number zero zero w e h k = refl
+last-enough image number zero (suc g) w e h k = rw (step-past image number w e (omega arith))
+last-enough image number (suc f) zero w e h k = rw (step-past image number w e (omega arith))
+last-enough image number (suc f) (suc g) w e h k =
+    onward-same w (stepped image number w e) _ _ (λ w′ e′ p.
+    let q = step-passes image number w e w′ e′ p in
+    last-enough image number f g w′ e′ (omega (arith, q .there)) (omega (arith, q .there)))
+
+pub last-step : (image : List ℕ) (number w e : ℕ) → lastFrom image number w e ≡ onward w (stepped image number w e) (lastFrom image number)
+unfolding lastFrom lastOver
+last-step image number w e =
+    onward-same w (stepped image number w e) _ _ (λ w′ e′ p.
+    let q = step-passes image number w e w′ e′ p in
+    last-enough image number wordMost (suc wordMost) w′ e′ (omega (arith, q .there)) (omega (arith, q .there)))
+
 module _ (image : List ℕ) (number w e : ℕ) where
   -- what the search says where its next header is of the number sought, of another, or the mark
   pub search-match : w + headerWords ≤ wordMost → counted (lengthAt image w) e < emptyMost → typeAt image w ≡ number →
@@ -160,13 +198,31 @@ pub search-first : (image : List ℕ) (number : ℕ) → searchFrom image number
 unfolding searched
 search-first image number = refl
 
--- a loop that goes header by header: what the search says from here on is what the whole search says
-module _ (image : List ℕ) (number w e : ℕ) (inv : searchFrom image number w e ≡ searched image number) where
-  pub loop-done : (s : Said) → done s ≡ stepped image number w e → s ≡ searched image number
-  loop-done s p = sym (search-step image number w e ∙ rw (← p)) ∙ inv
+-- .. with no header before it the last one is the whole search's
+pub last-first : (image : List ℕ) (number : ℕ) → lastFrom image number firstHeader 0 ≡ lastHeader image number
+unfolding lastHeader
+last-first image number = refl
 
-  pub loop-next : (w′ e′ : ℕ) → next w′ e′ ≡ stepped image number w e →
-      (w + 2 ≤ w′) × (w′ ≤ wordMost) × (e′ < emptyMost) × (searchFrom image number w′ e′ ≡ searched image number)
+-- a loop that goes header by header: what the search says from here on is what the whole search says, and so is its last header
+pub record Goes (image : List ℕ) (number w e : ℕ) : Type 0 where
+  pub inside : w ≤ wordMost
+  pub few : e < emptyMost
+  pub says : searchFrom image number w e ≡ searched image number
+  pub last : lastFrom image number w e ≡ lastHeader image number
+
+pub goes-first : (image : List ℕ) (number : ℕ) → Goes image number firstHeader 0
+goes-first image number = record { inside = omega arith; few = omega arith; says = search-first image number; last = last-first image number }
+
+module _ (image : List ℕ) (number w e : ℕ) (g : Goes image number w e) where
+  pub loop-done : (s : Said) → done s ≡ stepped image number w e → (s ≡ searched image number) × (w ≡ lastHeader image number)
+  loop-done s p = (sym (search-step image number w e ∙ rw (← p)) ∙ g .says, sym (last-step image number w e ∙ rw (← p)) ∙ g .last)
+
+  pub loop-passes : (w′ e′ : ℕ) → Passes image number w e w′ e′ → Goes image number w′ e′
+  loop-passes w′ e′ q =
+      let l : lastFrom image number w e ≡ lastFrom image number w′ e′ = last-step image number w e ∙ rw (step-other image number w e w′ e′ q) in
+      record { inside = q .inside; few = q .few; says = sym (search-other image number w e w′ e′ q) ∙ g .says; last = sym l ∙ g .last }
+
+  pub loop-next : (w′ e′ : ℕ) → next w′ e′ ≡ stepped image number w e → (w + 2 ≤ w′) × Goes image number w′ e′
   loop-next w′ e′ p =
       let q = step-passes image number w e w′ e′ p in
-      (omega (arith, q .there), q .inside, q .few, sym (search-other image number w e w′ e′ q) ∙ inv)
+      (omega (arith, q .there), loop-passes w′ e′ q)

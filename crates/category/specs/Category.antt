@@ -1,4 +1,4 @@
--- Document 01, 'Finding a category'. Definitions only.
+-- Finding a category: RULES, category. Definitions only.
 use Prim.Native.Nat.{ℕ, zero, suc, _+_}
 use mathlib.Core.List.{List, [], _∷_}
 use mathlib.Core.Bool.{Bool, true, false}
@@ -30,7 +30,7 @@ pub data Stepped : Type 0 where
   done : Said → Stepped
   next : ℕ → ℕ → Stepped
 
--- a header of this type and length, whose body stands at word body, and with which there are e empty ones: document 01's tests, in its order
+-- a header of this type and length, whose body stands at word body, and with which there are e empty ones: the tests of R-category-3, in its order
 unfoldable pub decided : ℕ → ℕ → ℕ → ℕ → ℕ → Stepped
 decided type len number body e =
     pick (ltb wordMost body) (done absent)

@@ -11,15 +11,22 @@ firstHeader = 64
 abbrev pub headerWords : ℕ
 headerWords = 2
 
+abbrev pub lengthWord : ℕ
+lengthWord = 1
+
 abbrev pub typeAt : List ℕ → ℕ → ℕ
 typeAt image w = le16 image (2 * w)
 
 abbrev pub lengthAt : List ℕ → ℕ → ℕ
-lengthAt image w = le16 image (2 * (w + 1))
+lengthAt image w = le16 image (2 * (w + lengthWord))
 
 -- the type that stands behind the last category
 abbrev pub endMark : ℕ
 endMark = 65535
+
+-- .. and how many words of it are needed: an image may end with the type
+abbrev pub markWords : ℕ
+markWords = 1
 
 -- the largest word number
 abbrev pub wordMost : ℕ

@@ -1,4 +1,4 @@
--- The categories of the SII that may be sought, by number (ETG1000.6 Table 19; document 01, 'Finding a category'). Definitions only.
+-- The categories of the SII that may be sought, by number (ETG1000.6 Table 19; RULES, category). Definitions only.
 use Prim.Native.Nat.{ℕ}
 
 abbrev pub strings : ℕ

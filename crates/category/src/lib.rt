@@ -1,5 +1,5 @@
 // Finding a category of the SII in a lent EEPROM image: `category` of ethercrab's subdevice/eeprom.rs.
-// Document 01, 'Finding a category', decides; specs/Category.antt has its rules in its order.
+// RULES, category, decides; specs/Category.antt has its rules in its order.
 use eeprom::Chunk;
 use eeprom::Range;
 use eeprom::RangeAnswer;
@@ -11,7 +11,8 @@ ghost use Prim.Native.Nat.{_+_, _≤_, _<_};
 ghost use Rattle.eeprom.specs.Answers.{saidRange};
 ghost use Rattle.category.specs.Layout.{headerWords, wordMost};
 ghost use Rattle.category.specs.Category.{numbers, emptyMost, among, counted, decided, stepped, searched, categorySaid};
-ghost use Rattle.category.specs.Answers.{saidFound, saidStep};
+ghost use Rattle.category.specs.Inside.{headerEnd, lastHeader, endInside, insideSaid};
+ghost use Rattle.category.specs.Answers.{saidFound, saidInside, saidStep};
 
 // The categories that may be sought, by their numbers in the SII.
 pub const STRINGS: u16 = 10;
@@ -35,6 +36,13 @@ const SII_FIRST_CATEGORY_START: u32 = 64;
 
 const WORD_MOST: u32 = 65535;
 
+// How many words a header has, which of them is the length, and how many of them the mark behind the last category needs.
+const HEADER_WORDS: u32 = 2;
+
+const LENGTH_WORD: u32 = 1;
+
+const MARK_WORDS: u32 = 1;
+
 // The type behind the last category, and the empty header at which a search ends.
 const END: u16 = 65535;
 
@@ -51,6 +59,19 @@ pub enum Found {
     No(Refusal),
 }
 
+// Whether all that a search looks at lies in the image.
+pub enum InsideAnswer {
+    Inside(bool),
+    // 14 and 1, as the search's own.
+    No(Refusal),
+}
+
+// Where a search ends: its last header's word, and what it answers.
+struct Ending {
+    word: u32,
+    found: Found,
+}
+
 // What a header leads to.
 enum Step {
     // The search ends.
@@ -65,12 +86,58 @@ pub fn category(image: &[u8], chunk: Chunk, number: u16) -> Found
 {
     if image_within(image) {
         if sought(number) {
-            search(image, chunk, number)
+            let ending = search(image, chunk, number);
+            ending.found
         } else {
             Found::No(Refusal::BadArgument)
         }
     } else {
         Found::No(Refusal::BadArgument)
+    }
+}
+
+// Whether the headers that the search for this number looks at, the mark, and the category that it finds lie in the image.
+// Past the image a byte reads as 0xFF, and a mark read there is none. Where `category` refuses, its refusal.
+pub fn category_inside(image: &[u8], chunk: Chunk, number: u16) -> InsideAnswer
+    ensures { λ r. ⌜ saidInside r ≡ insideSaid (now (image .entry)) number ⌝ }
+{
+    if image_within(image) {
+        if sought(number) {
+            let ending = search(image, chunk, number);
+            let word = ending.word;
+            let found = ending.found;
+            end_inside(image, chunk, word, found)
+        } else {
+            InsideAnswer::No(Refusal::BadArgument)
+        }
+    } else {
+        InsideAnswer::No(Refusal::BadArgument)
+    }
+}
+
+// .. where it ended at the header at word with this.
+fn end_inside(image: &[u8], chunk: Chunk, word: u32, found: Found) -> InsideAnswer
+    requires { ⌜ word ≤ wordMost ⌝ }
+    ensures { λ r. ⌜ saidInside r ≡ endInside (now (image .entry)) word (saidFound found) ⌝ }
+{
+    match found {
+        Found::At(g) => InsideAnswer::Inside((g.end as usize) <= image.len()),
+        Found::Absent => InsideAnswer::Inside(
+            (header_end(image, chunk, word) as usize) <= image.len(),
+        ),
+        Found::No(x) => InsideAnswer::No(x),
+    }
+}
+
+// The end of what is looked at of the header at word.
+fn header_end(image: &[u8], chunk: Chunk, word: u32) -> u32
+    requires { ⌜ word ≤ wordMost ⌝ }
+    ensures { λ r. ⌜ r ≡ headerEnd (now (image .entry)) word ⌝ }
+{
+    if word_of(image, chunk, 2 * word) == END {
+        2 * (word + MARK_WORDS)
+    } else {
+        2 * (word + HEADER_WORDS)
     }
 }
 
@@ -92,15 +159,16 @@ fn sought(number: u16) -> bool
 }
 
 // The search from word 0x0040 on.
-fn search(image: &[u8], chunk: Chunk, number: u16) -> Found
-    ensures { λ r. ⌜ saidFound r ≡ searched (now (image .entry)) number ⌝ }
+fn search(image: &[u8], chunk: Chunk, number: u16) -> Ending
+    ensures said { λ r. ⌜ saidFound (r .found) ≡ searched (now (image .entry)) number ⌝ }
+    ensures last { λ r. ⌜ r .word ≡ lastHeader (now (image .entry)) number ⌝ }
 {
     let mut word = SII_FIRST_CATEGORY_START;
     let mut empties: u32 = 0;
     loop {
         match header(image, chunk, number, word, empties) {
             Step::Done(f) => {
-                return f;
+                return Ending { word, found: f };
             }
             Step::Next(w, e) => {
                 word = w;
@@ -116,12 +184,12 @@ fn header(image: &[u8], chunk: Chunk, number: u16, word: u32, empties: u32) -> S
     ensures { λ r. ⌜ saidStep r ≡ stepped (now (image .entry)) number word empties ⌝ }
 {
     let category_type = word_of(image, chunk, 2 * word);
-    let len_words = word_of(image, chunk, 2 * (word + 1));
+    let len_words = word_of(image, chunk, 2 * (word + LENGTH_WORD));
     decide(
         category_type,
         len_words,
         number,
-        word + 2,
+        word + HEADER_WORDS,
         count(len_words, empties),
     )
 }
@@ -143,7 +211,7 @@ fn decide(category_type: u16, len_words: u16, number: u16, body: u32, e: u32) ->
         return Step::Done(Found::Absent);
     }
     if EMPTY_MOST <= e {
-        return Step::Done(Found::Absent);
+        return Step::Done(Found::Absent); // even if it is of the number sought
     }
     if category_type == number {
         return Step::Done(as_found(Range::new(body as u16, len_words)));

@@ -1,4 +1,4 @@
--- What comes back, in document 01's numbers and values, and what stands at a position. Definitions only.
+-- What comes back, in numbers and values (RULES, refusals), and what stands at a position. Definitions only.
 use Rattle.lists.specs.Records.{Item, one, none, Back}
 use Rattle.lists.specs.Answers.{saidList}
 use Rattle.clock.specs.declared.DistributedClock.{DistributedClock}

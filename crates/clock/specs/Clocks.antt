@@ -1,6 +1,6 @@
 -- The modes of the distributed clock as the SII lists them, by the scheme of `lists`. Definitions only.
 use Prim.Native.Nat.{ℕ, _+_}
-use mathlib.Core.List.{List}
+use mathlib.Core.List.{List, [], _∷_}
 use lib.Dec.{leb}
 use Rattle.refusal.specs.Said.{pick}
 use Rattle.category.specs.Numbers as numbers
@@ -25,6 +25,12 @@ clockOf image p = record {
   «name_string_idx» = field image p modeNameIdx;
   «description_string_idx» = field image p modeDescIdx;
 }
+
+-- the numbers that the list gives of it
+abbrev pub clockValues : DistributedClock → List ℕ
+clockValues c =
+    c .«cycle_time0» ∷ c .«shift_time0» ∷ c .«shift_time1» ∷ c .«sync1_cycle_factor» ∷ c .«assign_activate» ∷ c .«sync0_cycle_factor»
+    ∷ c .«name_string_idx» ∷ c .«description_string_idx» ∷ []
 
 -- what stands at p of a category that ends at end; every value is admitted
 unfoldable pub clockAt : List ℕ → ℕ → ℕ → Item DistributedClock

@@ -1,4 +1,5 @@
--- Where the fields of a record of the SII's category DC lie (ETG2010, category DC). Nothing else says an offset. Definitions only.
+-- Where the fields of a record of the SII's category DC lie (ETG2010, category DC). Nothing else says an offset but
+-- the head of src/lib.rt, once and under the same name. Definitions only.
 use Prim.Native.Nat.{ℕ}
 use Rattle.sii.specs.Layout.{Field, byte, word, long}
 

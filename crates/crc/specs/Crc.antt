@@ -1,4 +1,4 @@
--- The CRC-8 as a division of polynomials over the bits 0 and 1: document 01, 'What is read out'. Definitions only.
+-- The CRC-8 as a division of polynomials over the bits 0 and 1: RULES, read-out. Definitions only.
 -- A polynomial is the list of its coefficients, the highest first; to add or to take away is the exclusive or.
 use Prim.Native.Nat.{ℕ, zero, suc, _+_, _*_, _/_, _%_}
 use mathlib.Core.List.{List, [], _∷_, _++_}
@@ -14,6 +14,13 @@ polynomial = 0x07
 abbrev pub start : ℕ
 start = 0xFF
 
+-- the bits of a byte, and what the polynomial's highest term, x^8, weighs
+abbrev pub byteBits : ℕ
+byteBits = 8
+
+abbrev pub highestTerm : ℕ
+highestTerm = 256
+
 -- the lowest n bits of b, the highest of them first
 unfoldable pub bits : ℕ → ℕ → List ℕ
 bits zero b = []
@@ -22,11 +29,11 @@ bits (suc n) b = bits n (b / 2) ++ (b % 2 ∷ [])
 -- the bits of bytes: no reflection
 unfoldable pub bitsOf : List ℕ → List ℕ
 bitsOf [] = []
-bitsOf (b ∷ bs) = bits 8 b ++ bitsOf bs
+bitsOf (b ∷ bs) = bits byteBits b ++ bitsOf bs
 
 -- one step of long division: the next bit is brought down, and the divisor taken off where its x^8 stands
 unfoldable pub broughtDown : ℕ → ℕ → ℕ
-broughtDown r t = pick (ltb (r * 2 + t) 256) (r * 2 + t) (bitXor (r * 2 + t) (256 + polynomial))
+broughtDown r t = pick (ltb (r * 2 + t) highestTerm) (r * 2 + t) (bitXor (r * 2 + t) (highestTerm + polynomial))
 
 -- what is left of the bits, r being left so far
 unfoldable pub remainder : ℕ → List ℕ → ℕ

@@ -4,11 +4,15 @@ use mathlib.Core.List.{List, [], _∷_}
 use lib.Dec.{ltb}
 use lib.Bits.{bitXor}
 use Rattle.refusal.specs.Said.{pick}
-use Rattle.crc.specs.Crc.{polynomial}
+use Rattle.crc.specs.Crc.{polynomial, byteBits}
+
+-- what a byte's highest bit weighs
+abbrev pub topBit : ℕ
+topBit = 128
 
 -- a place to the left, and the polynomial taken off where a one leaves at the top
 unfoldable pub shifted : ℕ → ℕ
-shifted c = pick (ltb c 128) (c * 2) (bitXor (c % 128 * 2) polynomial)
+shifted c = pick (ltb c topBit) (c * 2) (bitXor (c % topBit * 2) polynomial)
 
 -- k places
 unfoldable pub shiftedBy : ℕ → ℕ → ℕ
@@ -17,7 +21,7 @@ shiftedBy (suc k) c = shiftedBy k (shifted c)
 
 -- the next byte added, and eight places
 abbrev pub withByte : ℕ → ℕ → ℕ
-withByte c b = shiftedBy 8 (bitXor c b)
+withByte c b = shiftedBy byteBits (bitXor c b)
 
 -- byte by byte from c on
 unfoldable pub stepped : ℕ → List ℕ → ℕ

@@ -19,7 +19,8 @@ use Rattle.pdu.specs.Read.{readOf, read, shownAll, payloadOf}
 use Rattle.pdu.proofs.Rows.{pdu-length, layout-none, layout-length, append-length, chained-length, counted, last-in, layout-snoc, last-snoc, fit-append}
 use Rattle.pdu.proofs.Reading.{frame-read, frame-payloads}
 use Rattle.created_frame.specs.declared.Builder.{Builder}
-use Rattle.created_frame.specs.Frame.{more, marked, sound, acceptable, room, withPdu, grown, fresh, afterOpen, pushedBuilder, afterPush, taken, restBuilder, afterRest}
+use Rattle.created_frame.specs.Frame.{moreOn, more, marked, sound, acceptable, room, withPdu, grown, fresh, afterOpen, pushedBuilder, afterPush, taken, restBuilder, afterRest}
+use Rattle.created_frame.proofs.Whole.{pdu-behind}
 use Rattle.created_frame.specs.Built.{made, pushAdds, restAdds, Ours, just-opened, then-pushed, then-rest, Built, Call, a-push, a-rest, Kept, openedWith, called, adds, run, runAdds, Addressed}
 
 -- ---- more-follows set in a row of PDUs
@@ -30,11 +31,11 @@ set-behind (x ∷ xs) ys k v = rw suc-add (ap (λ (l : List ℕ). x ∷ l) (set-
 
 more-behind : (xs ys : List ℕ) (k : ℕ) → more (xs ++ ys) (length xs + k) ≡ xs ++ more ys k
 unfolding more
-more-behind xs ys k = rw (byte-behind xs ys k) (set-behind xs ys k (byteAt ys k % 128 + 128))
+more-behind xs ys k = rw (byte-behind xs ys k) (set-behind xs ys k (moreOn (byteAt ys k)))
 
 -- bit 15 of the flags is bit 7 of their second byte
 flags-set : (l extra : ℕ) → l < 2048 → extra < 16
-    → (flagsOf l extra 0 % 256 ≡ flagsOf l extra 1 % 256) × (flagsOf l extra 0 / 256 % 256 % 128 + 128 ≡ flagsOf l extra 1 / 256 % 256)
+    → (flagsOf l extra 0 % 256 ≡ flagsOf l extra 1 % 256) × (moreOn (flagsOf l extra 0 / 256 % 256) ≡ flagsOf l extra 1 / 256 % 256)
 flags-set l extra h g = (omega arith, omega arith)
 
 more-one : (p : Pdu) (rest : List ℕ) → Fits p → more ((pduBytes p 0 ++ []) ++ rest) (0 + 7) ≡ (pduBytes p 1 ++ []) ++ rest
@@ -118,7 +119,7 @@ module _ (ps : List Pdu) (xs : List ℕ) (b : Builder) (h : Built ps xs b) where
         rw (m, u) (overlay-behind (chained ps) (zeros (h .free)) ys) in
         let z : ys ++ drop (length ys) (zeros (h .free)) ≡ pduBytes q 0 ++ zeros (h .free - (len + 12)) =
         ap (λ (k : ℕ). ys ++ drop (length ys) (zeros k)) f ∙ pdu-zeros index command address given len (h .free - (len + 12)) le in
-        o ∙ ap (λ (t : List ℕ). chained ps ++ t) z ∙ sym (append-assoc (chained ps) (pduBytes q 0) (zeros (h .free - (len + 12))))
+        pdu-behind xs b index command address len given ∙ o ∙ ap (λ (t : List ℕ). chained ps ++ t) z ∙ sym (append-assoc (chained ps) (pduBytes q 0) (zeros (h .free - (len + 12))))
         ∙ ap (λ (t : List ℕ). t ++ zeros (h .free - (len + 12))) (sym (layout-snoc ps q))
 
     -- one PDU more

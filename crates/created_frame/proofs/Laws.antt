@@ -1,10 +1,11 @@
 -- Laws of the definitions that the contracts cite: what an accepted state is, how a PDU is laid, and each way out of a push.
 use mathlib.Core.Path.{_≡_, refl, sym, ap, _∙_}
+use mathlib.Core.Logic.{_≢_}
 use mathlib.Core.Bool.{Bool, true, false, _&&_}
 use mathlib.Core.List.{List}
 use Prim.Native.Nat.{ℕ, _+_, _*_, _%_, _^_, _≤_, _<_, max}
 use native.Mathlib.Omega.{arith}
-use borrow.Author.Tests.{leb-true, eqb-true, le-leb, lt-leb, eq-eqb, ne-eqb}
+use borrow.Author.Tests.{leb-true, eqb-true, eqb-false, le-leb, lt-leb, eq-eqb, ne-eqb}
 use lib.Dec.{leb, eqb}
 use lib.ListN.{length, take, length-set}
 use Rattle.refusal.specs.Said.{pick}
@@ -20,17 +21,12 @@ use Rattle.created_frame.specs.declared.Pushed.the-variants as pushing
 use Rattle.created_frame.specs.declared.RestPush.{RestPush}
 use Rattle.created_frame.specs.declared.Rest.the-variants as resting
 use Rattle.created_frame.specs.Answers.{saidPushed, saidRest}
+use Rattle.created_frame.specs.Bounds.{Sound, InBounds}
 use Rattle.created_frame.specs.Frame.{commandMost, dataMost, more, marked, sound, acceptable, room, withPdu, Roomy, grown, pushed, pushedBuilder, pushedNext, afterPush, taken, restPushed, restBuilder, restNext, afterRest}
 
 -- ---- what an accepted state and lengths are
 
--- the facts that `sound` tests
-pub record Sound (size : ℕ) (b : Builder) : Type 0 where
-  pub small : size ≤ areaMost
-  pub inside : b .used ≤ size
-  pub counted : pduOverhead * b .count ≤ b .used
-  pub header-in : 0 < b .count → b .last + headerBytes ≤ b .used
-
+-- the facts that `sound` tests, both ways
 pub sound-facts : (size : ℕ) (b : Builder) → sound size b ≡ true → Sound size b
 unfolding sound
 sound-facts size b e =
@@ -43,25 +39,36 @@ sound-facts size b e =
     go true q s i e =
         let n : b .count ≡ 0 = eqb-true _ _ q in
         let u : b .used ≡ 0 = eqb-true _ _ e in
-        record { small = s; inside = i; counted = omega arith; header-in = λ h. omega arith }
+        record { small = s; inside = i; none-used = λ z. u; counted = omega arith; header-in = λ h. omega arith }
     go false q s i e =
         let p = both _ _ e in
-        record { small = s; inside = i; counted = leb-true _ _ (p .0); header-in = λ h. leb-true _ _ (p .1) }
+        record { small = s; inside = i; none-used = λ z. absurd (eqb-false _ _ q z); counted = leb-true _ _ (p .0); header-in = λ h. leb-true _ _ (p .1) }
+
+pub facts-sound : (size : ℕ) (b : Builder) → Sound size b → sound size b ≡ true
+unfolding sound
+facts-sound size b f = go (eqb (b .count) 0) refl
+  where
+    go : (t : Bool) → eqb (b .count) 0 ≡ t → sound size b ≡ true
+    go true q =
+        let u : b .used ≡ 0 = f .none-used (eqb-true _ _ q) in
+        simp (q, u, le-leb size areaMost (f .small), le-leb 0 size (omega arith))
+    go false q =
+        let h : b .last + headerBytes ≤ b .used = f .header-in (let z : b .count ≢ 0 = eqb-false _ _ q in omega arith) in
+        simp (q, le-leb size areaMost (f .small), le-leb (b .used) size (f .inside), le-leb (pduOverhead * b .count) (b .used) (f .counted), le-leb (b .last + headerBytes) (b .used) h)
 
 -- .. and those that `acceptable` tests
-pub record Accepted (size : ℕ) (b : Builder) (command given over : ℕ) : Type 0 where
-  pub state : Sound size b
-  pub known : command ≤ commandMost
-  pub given-fits : given ≤ dataMost
-  pub over-fits : over ≤ dataMost
-
-pub accepted : (size : ℕ) (b : Builder) (command given over : ℕ) → acceptable size b command given over ≡ true → Accepted size b command given over
+pub accepted : (size : ℕ) (b : Builder) (command given over : ℕ) → acceptable size b command given over ≡ true → InBounds size b command given over
 unfolding acceptable
 accepted size b command given over e =
     let p = both _ _ e in
     let q = both _ _ (p .0) in
     let s = both _ _ (q .0) in
     record { state = sound-facts size b (s .0); known = leb-true _ _ (s .1); given-fits = leb-true _ _ (q .1); over-fits = leb-true _ _ (p .1) }
+
+pub bounds-accepted : (size : ℕ) (b : Builder) (command given over : ℕ) → InBounds size b command given over → acceptable size b command given over ≡ true
+unfolding acceptable
+bounds-accepted size b command given over f =
+    simp (facts-sound size b (f .state), le-leb command commandMost (f .known), le-leb given dataMost (f .given-fits), le-leb over dataMost (f .over-fits))
 
 -- ---- how a PDU is laid
 
@@ -100,7 +107,7 @@ in-largest size b len given r =
 -- ---- the three ways out of a push: the answer, the state and the index, and the area
 
 module _ (xs : List ℕ) (b : Builder) (index command address : ℕ) (bytes : List ℕ) (over : ℕ) where
-  abbrev Met : Push → List ℕ → Type 0
+  abbrev pub Met : Push → List ℕ → Type 0
   Met r ys =
       (saidPushed (r .answer) ≡ pushed (length xs) b index command (length bytes) over)
       × (((r .builder ≡ pushedBuilder (length xs) b command (length bytes) over) × (r .next ≡ pushedNext (length xs) b index command (length bytes) over))
@@ -134,7 +141,7 @@ module _ (xs : List ℕ) (b : Builder) (index command address : ℕ) (bytes : Li
 -- ---- the three ways out of a push of as much as fits
 
 module _ (xs : List ℕ) (b : Builder) (index command address : ℕ) (bytes : List ℕ) where
-  abbrev RestMet : RestPush → List ℕ → Type 0
+  abbrev pub RestMet : RestPush → List ℕ → Type 0
   RestMet r ys =
       (saidRest (r .answer) ≡ restPushed (length xs) b index command (length bytes))
       × (((r .builder ≡ restBuilder (length xs) b command (length bytes)) × (r .next ≡ restNext (length xs) b index command (length bytes)))

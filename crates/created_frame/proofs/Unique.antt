@@ -53,7 +53,7 @@ unfolding pushedOf
 pushed-back (pushing.Done h) = refl
 pushed-back (pushing.No x) = ap pushing.No (back x)
 
-pushed-unique : (a b : Pushed) (s : Said) → saidPushed a ≡ s → saidPushed b ≡ s → a ≡ b
+pub pushed-unique : (a b : Pushed) (s : Said) → saidPushed a ≡ s → saidPushed b ≡ s → a ≡ b
 pushed-unique = unique saidPushed pushedOf pushed-back
 
 -- what is promised of one result of `push_pdu`

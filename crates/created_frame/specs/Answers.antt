@@ -1,7 +1,8 @@
--- Each answer on paper: document 01's number and values for each case. Definitions only.
+-- Each answer on paper: number and values for each case (RULES, refusals). Definitions only.
 use Prim.Native.Nat.{ℕ}
 use mathlib.Core.List.{List, [], _∷_}
 use Rattle.refusal.specs.Said.{Said, gives, absent, saidOf, pick}
+use Rattle.created_frame.specs.declared.Builder.{Builder}
 use Rattle.created_frame.specs.declared.PduResponseHandle.{PduResponseHandle}
 use Rattle.created_frame.specs.declared.Opened.{Opened}
 use Rattle.created_frame.specs.declared.Opened.the-variants as opening
@@ -16,9 +17,12 @@ use Rattle.created_frame.specs.declared.CanPush.the-variants as asking
 abbrev pub handleValues : PduResponseHandle → List ℕ
 handleValues h = h .start ∷ h .size ∷ h .index ∷ h .command ∷ []
 
--- used, count, last
+-- a state's numbers: used, count, last
+abbrev pub stateValues : Builder → List ℕ
+stateValues b = b .used ∷ b .count ∷ b .last ∷ []
+
 abbrev pub saidOpened : Opened → Said
-saidOpened (opening.Ready b) = gives (b .used ∷ b .count ∷ b .last ∷ [])
+saidOpened (opening.Ready b) = gives (stateValues b)
 saidOpened (opening.No x) = saidOf x
 
 abbrev pub saidPushed : Pushed → Said

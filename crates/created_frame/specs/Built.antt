@@ -5,6 +5,7 @@ use mathlib.Core.List.{List, [], _∷_, _++_}
 use lib.ListN.{length, take, replicate}
 use lib.Dec.{eqb}
 use Rattle.refusal.specs.Said.{pick}
+use Rattle.wire.specs.Bytes.{longPast}
 use Rattle.pdu.specs.Pdu.{areaMost, Pdu, layout, lastAt, AllFit}
 use Rattle.created_frame.specs.declared.Builder.{Builder}
 use Rattle.created_frame.specs.Frame.{acceptable, room, taken, fresh, afterOpen, pushedBuilder, pushedNext, afterPush, restBuilder, restNext, afterRest}
@@ -29,10 +30,10 @@ restAdds size b index command address bytes =
 pub data Ours : List Pdu → List ℕ → Builder → Type 0 where
   just-opened : (xs : List ℕ) → length xs ≤ areaMost → Ours [] (afterOpen xs) fresh
   then-pushed : {ps : List Pdu} {xs : List ℕ} {b : Builder} (index command address : ℕ) (bytes : List ℕ) (over : ℕ)
-      → Ours ps xs b → address < 4294967296
+      → Ours ps xs b → address < longPast
       → Ours (ps ++ pushAdds (length xs) b index command address bytes over) (afterPush xs b index command address bytes over) (pushedBuilder (length xs) b command (length bytes) over)
   then-rest : {ps : List Pdu} {xs : List ℕ} {b : Builder} (index command address : ℕ) (bytes : List ℕ)
-      → Ours ps xs b → address < 4294967296
+      → Ours ps xs b → address < longPast
       → Ours (ps ++ restAdds (length xs) b index command address bytes) (afterRest xs b index command address bytes) (restBuilder (length xs) b command (length bytes))
 
 -- what is known of one
@@ -95,5 +96,5 @@ runAdds k (c ∷ cs) = adds k c ++ runAdds (called k c) cs
 -- the addresses have 32 bits
 unfoldable pub Addressed : List Call → Type 0
 Addressed [] = Unit {0}
-Addressed (a-push command address bytes over ∷ cs) = (address < 4294967296) × Addressed cs
-Addressed (a-rest command address bytes ∷ cs) = (address < 4294967296) × Addressed cs
+Addressed (a-push command address bytes over ∷ cs) = (address < longPast) × Addressed cs
+Addressed (a-rest command address bytes ∷ cs) = (address < longPast) × Addressed cs

@@ -1,12 +1,12 @@
--- What a push answers, and what it leaves: the area's bytes, the builder's state, the index counter (document 01, 'Frames'). Definitions only.
+-- What a push answers, and what it leaves: the area's bytes, the builder's state, the index counter (RULES, frames). Definitions only.
 use Prim.Native.Nat.{ℕ, _+_, _-_, _*_, _%_, _≤_, _<_, min, max}
 use mathlib.Core.List.{List, [], _∷_, _++_}
 use mathlib.Core.Bool.{Bool, _&&_}
 use lib.ListN.{length, take, set, replicate}
 use lib.Dec.{leb, eqb}
 use Rattle.refusal.specs.Said.{Said, gives, absent, refuses, pick}
-use Rattle.wire.specs.Bytes.{byteAt, overlay}
-use Rattle.pdu.specs.Pdu.{areaMost, pduOverhead, headerBytes, headerOf}
+use Rattle.wire.specs.Bytes.{bytePast, byteAt, overlay}
+use Rattle.pdu.specs.Pdu.{areaMost, pduOverhead, headerBytes, moreAt, moreInByte, headerOf}
 use Rattle.created_frame.specs.declared.Builder.{Builder}
 
 -- ---- the limits: of a command, and of data and override
@@ -40,13 +40,17 @@ taken size used given = min given (size - used - pduOverhead)
 
 -- ---- what a PDU more changes
 
--- bit 7 of the byte at `at` is set
-unfoldable pub more : List ℕ → ℕ → List ℕ
-more xs at = set xs at (byteAt xs at % 128 + 128)
+-- a byte with more-follows set
+abbrev pub moreOn : ℕ → ℕ
+moreOn n = n % moreInByte + moreInByte
 
--- more-follows set in the last PDU, where there is one: bit 15 of its flags, so bit 7 of its byte 7
+-- .. that at `at`
+unfoldable pub more : List ℕ → ℕ → List ℕ
+more xs at = set xs at (moreOn (byteAt xs at))
+
+-- .. in the last PDU, where there is one
 unfoldable pub marked : List ℕ → ℕ → ℕ → List ℕ
-marked xs count last = pick (eqb count 0) xs (more xs (last + 7))
+marked xs count last = pick (eqb count 0) xs (more xs (last + moreAt))
 
 -- the area with a PDU of len payload bytes behind the used ones: more-follows set in the PDU before it, the new one's header and the given bytes written,
 -- all else as it was
@@ -60,7 +64,7 @@ grown b len = record { used = b .used + (len + pduOverhead); count = b .count + 
 
 -- the index after this one: after 255 comes 0
 abbrev pub after : ℕ → ℕ
-after index = (index + 1) % 256
+after index = (index + 1) % bytePast
 
 -- what a push says of its PDU: its place, its whole size, its index, its command
 abbrev pub handle : Builder → ℕ → ℕ → ℕ → List ℕ

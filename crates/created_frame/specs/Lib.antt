@@ -1,3 +1,5 @@
 pub mod Frame
 pub mod Answers
+pub mod Bounds
 pub mod Built
+pub mod Pushes

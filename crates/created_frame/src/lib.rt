@@ -1,18 +1,19 @@
-// The frame builder: PDUs pushed one after the other into a lent area. It follows created_frame.rs of the Rust and document 01, 'Frames';
+// The frame builder: PDUs pushed one after the other into a lent area. It follows created_frame.rs of the Rust and RULES, frames;
 // headers are packed by `pdu`. The state of an area goes in and comes back by value, and so does the index counter.
 use pdu::AREA_MOST;
+use pdu::HEADER_BYTES;
+use pdu::MORE_AT;
+use pdu::MORE_IN_BYTE;
 use refusal::Refusal;
 ghost use mathlib.Core.Path.{_≡_};
 ghost use Prim.Native.Nat.{_+_, _≤_, _<_, max};
 ghost use lib.ListN.{length};
-ghost use Rattle.pdu.specs.Pdu.{areaMost, pduOverhead};
+ghost use Rattle.pdu.specs.Pdu.{areaMost, pduOverhead, moreAt};
 ghost use Rattle.created_frame.specs.Frame.{marked, sound, acceptable, withPdu, Roomy, grown, pushed, pushedBuilder, pushedNext, afterPush, opened, afterOpen, taken, restPushed, restBuilder, restNext, afterRest, canPush};
-ghost use Rattle.created_frame.specs.Answers.{saidOpened, saidPushed, saidRest, saidCan};
+ghost use Rattle.created_frame.specs.Answers.{handleValues, stateValues, saidOpened, saidPushed, saidRest, saidCan};
 
 // A PDU's bytes over its payload: its header, and the working counter behind the payload.
-pub const PDU_OVERHEAD_BYTES: usize = 12;
-
-const HEADER_BYTES: usize = 10;
+pub const PDU_OVERHEAD_BYTES: usize = pdu::PDU_OVERHEAD_BYTES;
 
 const COMMAND_MOST: u8 = 14;
 
@@ -203,6 +204,25 @@ pub fn is_sound(size: usize, b: Builder) -> bool
     true
 }
 
+// A state as a row of numbers: used, count, last.
+pub fn state_row(b: Builder) -> [u64; 3]
+    ensures { λ r. ⌜ r ≡ stateValues b ⌝ }
+{
+    [b.used as u64, b.count as u64, b.last as u64]
+}
+
+// A handle as a row of numbers: the PDU's place, its whole size, its index, its command.
+pub fn handle_row(h: PduResponseHandle) -> [u64; 4]
+    ensures { λ r. ⌜ r ≡ handleValues h ⌝ }
+{
+    [
+        h.start as u64,
+        h.size as u64,
+        h.index as u64,
+        h.command as u64,
+    ]
+}
+
 // State, command and lengths are within the bounds.
 fn is_acceptable(size: usize, b: Builder, command: u8, given: usize, over: usize) -> bool
     ensures { λ r. ⌜ r ≡ acceptable size b command given over ⌝ }
@@ -263,13 +283,13 @@ fn append(
 
 // More-follows, bit 15 of the flags, set in the last PDU, where there is one.
 fn mark(area: &mut [u8], count: usize, last: usize)
-    requires { ⌜ (0 < count → last + 7 < length (now area)) ⌝ }
+    requires { ⌜ (0 < count → last + moreAt < length (now area)) ⌝ }
     ensures { λ _. ⌜ now (area .exit) ≡ marked (now (area .entry)) count last ⌝ }
 {
     if 0 < count {
-        let at = last + 7;
+        let at = last + MORE_AT;
         let f = area[at];
-        area[at] = f % 128 + 128;
+        area[at] = f % MORE_IN_BYTE + MORE_IN_BYTE;
     }
 }
 

@@ -1,4 +1,4 @@
--- Document 01, 'Measured on the bench', the spreading's line, said of permitted cuttings: by computing the greedy plan.
+-- RULES, bench, the cases of spreading, said of permitted cuttings: by computing the greedy plan.
 use mathlib.Core.Path.{_≡_, refl}
 use native.Mathlib.Omega.{arith}
 use mathlib.Core.List.{List}

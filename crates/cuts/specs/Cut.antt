@@ -1,4 +1,4 @@
--- What a permitted cutting of an image is: document 01, 'Frames', second paragraph. Nothing here knows how one is found. Definitions only.
+-- What a permitted cutting of an image is: RULES, spreading. Nothing here knows how one is found. Definitions only.
 use mathlib.Core.Path.{_≡_}
 use Prim.Native.Nat.{ℕ, _+_, _≤_}
 use mathlib.Core.List.{List, [], _∷_}

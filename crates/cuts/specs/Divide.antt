@@ -1,4 +1,4 @@
--- Document 01's 'divides the whole image into pieces of at least 1 byte, every byte in exactly one, .. in image order', byte by byte. Definitions only.
+-- A permitted cutting (RULES, spreading) divides the whole image into pieces of at least 1 byte, every byte in exactly one: said byte by byte. Definitions only.
 use mathlib.Core.Path.{_≡_}
 use Prim.Native.Nat.{ℕ, _+_, _≤_, _<_}
 use mathlib.Core.Bool.{Bool, _&&_}

@@ -1,4 +1,4 @@
--- The greedy plan: areas in order, each taking as much as it has room for (document 01, 'Frames': one push as by `push_pdu_slice_rest`). Definitions only.
+-- The greedy plan: areas in order, each taking as much as it has room for (RULES, spreading: one push as by `push_pdu_slice_rest`). Definitions only.
 use Prim.Native.Nat.{ℕ, zero, suc, _+_, _-_, min}
 use mathlib.Core.List.{List, [], _∷_}
 use Rattle.pdu.specs.Pdu.{pduOverhead}

@@ -27,15 +27,7 @@ pub(crate) fn chunk(nums: &[u64], i: usize) -> Chunk {
 }
 
 // A field as a number of a row.
-pub(crate) fn bit(b: bool) -> u64 {
-    if b { 1 } else { 0 }
-}
-
 pub(crate) fn wide8(x: u8) -> u64 {
-    x as u64
-}
-
-pub(crate) fn wide16(x: u16) -> u64 {
     x as u64
 }
 

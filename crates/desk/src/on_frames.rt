@@ -1,6 +1,5 @@
 // The requests on frames: the builder, the frame header, the reader.
 use crate::numbers::at;
-use crate::numbers::bit;
 use crate::numbers::byte;
 use crate::numbers::long;
 use crate::numbers::put;
@@ -22,16 +21,22 @@ use created_frame::Push;
 use created_frame::Pushed;
 use created_frame::Rest;
 use created_frame::RestPush;
+use created_frame::handle_row;
+use created_frame::state_row;
 use frame_reader::FrameAnswer;
 use frame_reader::FrameRead;
 use pdu::FrameHead;
 use pdu::HeaderAnswer;
 use pdu::PduFields;
+use pdu::pdu_row;
+use wire::flag;
 use wire::lesser;
 
 const OPEN: u64 = 0x6f70656e_20202020;
 
 const PUSH: u64 = 0x70757368_20202020;
+
+const HANDLE: u64 = 0x68616e64_6c652020;
 
 const REST: u64 = 0x72657374_20202020;
 
@@ -46,6 +51,7 @@ pub(crate) fn shape(name: u64) -> u64 {
     match name {
         OPEN => 0xb,
         PUSH => 0xb2221_14b2,
+        HANDLE => 0xb2221_14b2,
         REST => 0xb2221_14b,
         CANPUSH => 0x22222,
         HEADER => 0x2,
@@ -63,7 +69,8 @@ pub(crate) fn answer(
 ) -> Reply {
     match name {
         OPEN => open_area(area, row),
-        PUSH => push(area, nums, data, row),
+        PUSH => push(area, nums, data, row, 2),
+        HANDLE => push(area, nums, data, row, 4),
         REST => rest(area, nums, data, row),
         CANPUSH => can_push(nums, row),
         HEADER => header(nums, area, row),
@@ -84,14 +91,14 @@ pub(crate) fn state(nums: &[u64], i: u8) -> Builder {
 
 // S: a state with the index counter.
 fn with_state(r: Reply, row: &mut [u64], b: Builder, index: u8) -> Reply {
-    let xs = [b.used as u64, b.count as u64, b.last as u64, index as u64];
-    with_record(r, row, &xs)
+    let r3 = with_record(r, row, &state_row(b));
+    with_record(r3, row, &[index as u64])
 }
 
 fn of_opened(row: &mut [u64], r: Opened) -> Reply {
     match r {
         Opened::Ready(b) => {
-            let xs = [b.used as u64, b.count as u64, b.last as u64];
+            let xs = state_row(b);
             with_record(gives_row(0), row, &xs)
         }
         Opened::No(x) => {
@@ -107,23 +114,25 @@ fn open_area(area: &mut [u8], row: &mut [u64]) -> Reply {
     with_slice(of_opened(row, r), FIRST, k)
 }
 
-fn of_pushed(row: &mut [u64], r: Pushed) -> Reply {
+// The first so many numbers of the handle are said.
+fn of_pushed(row: &mut [u64], r: Pushed, shown: usize) -> Reply {
     match r {
         Pushed::Done(h) => {
-            let xs = [h.start as u64, h.size as u64];
-            gives(row, &xs)
+            let xs = handle_row(h);
+            put_all(row, 0, &xs);
+            gives_row(shown)
         }
         Pushed::No(x) => refuses(row, x),
     }
 }
 
-fn of_push(row: &mut [u64], r: Push) -> Reply {
+fn of_push(row: &mut [u64], r: Push, shown: usize) -> Reply {
     let answer = r.answer;
     let b = r.builder;
-    with_state(of_pushed(row, answer), row, b, r.next)
+    with_state(of_pushed(row, answer, shown), row, b, r.next)
 }
 
-fn push(area: &mut [u8], nums: &[u64], data: &[u8], row: &mut [u64]) -> Reply {
+fn push(area: &mut [u8], nums: &[u64], data: &[u8], row: &mut [u64], shown: usize) -> Reply {
     let k = area.len();
     let r = created_frame::push_pdu(
         area,
@@ -134,7 +143,7 @@ fn push(area: &mut [u8], nums: &[u64], data: &[u8], row: &mut [u64]) -> Reply {
         data,
         at(nums, 8) as usize,
     );
-    with_slice(of_push(row, r), FIRST, k)
+    with_slice(of_push(row, r, shown), FIRST, k)
 }
 
 fn of_rest(row: &mut [u64], r: Rest) -> Reply {
@@ -171,7 +180,7 @@ fn can_push(nums: &[u64], row: &mut [u64]) -> Reply {
     let size = at(nums, 0) as usize;
     let len = at(nums, 4) as usize;
     match created_frame::can_push_pdu_payload(size, state(nums, 1), len) {
-        CanPush::Room(b) => gives_one(row, bit(b)),
+        CanPush::Room(b) => gives_one(row, flag(b)),
         CanPush::No(x) => refuses(row, x),
     }
 }
@@ -190,20 +199,6 @@ fn header(nums: &[u64], text: &mut [u8], row: &mut [u64]) -> Reply {
     let answer = r.answer;
     wire::lay(text, 0, &bytes);
     with_slice(of_header(row, answer), FIRST, 2)
-}
-
-fn pdu_row(p: PduFields) -> [u64; 9] {
-    [
-        p.command as u64,
-        p.index as u64,
-        p.address as u64,
-        p.len as u64,
-        bit(p.circulated),
-        bit(p.more_follows),
-        p.irq as u64,
-        p.place as u64,
-        p.counter as u64,
-    ]
 }
 
 fn put_pdu(row: &mut [u64], k: usize, p: PduFields) -> usize {

@@ -1,11 +1,9 @@
 // The requests that read the SII's lists: sync managers, FMMUs, PDOs.
 use crate::numbers::at;
-use crate::numbers::bit;
 use crate::numbers::chunk;
 use crate::numbers::put;
 use crate::numbers::put_all;
 use crate::numbers::wide8;
-use crate::numbers::wide16;
 use crate::reply::Reply;
 use crate::reply::gives_row;
 use crate::reply::refuses;
@@ -17,9 +15,14 @@ use lists::Pdo;
 use lists::PdoList;
 use lists::SyncManager;
 use lists::SyncManagers;
+use lists::pdo_row;
+use lists::sync_manager_row;
+use lists::usage_type;
 use wire::lesser;
 
 const SMS: u64 = 0x736d7320_20202020;
+
+const USAGES: u64 = 0x75736167_65732020;
 
 const FMMUS: u64 = 0x666d6d75_73202020;
 
@@ -31,6 +34,7 @@ const PDOS: u64 = 0x70646f73_20202020;
 pub(crate) fn shape(name: u64) -> u64 {
     match name {
         SMS => 0xbc,
+        USAGES => 0xbc,
         FMMUS => 0xbc,
         FMMUEX => 0xbc,
         PDOS => 0xbc2,
@@ -41,6 +45,7 @@ pub(crate) fn shape(name: u64) -> u64 {
 pub(crate) fn answer(name: u64, nums: &[u64], image: &[u8], row: &mut [u64]) -> Reply {
     match name {
         SMS => of_sms(row, lists::sync_managers(image, chunk(nums, 1))),
+        USAGES => of_usages(row, lists::sync_managers(image, chunk(nums, 1))),
         FMMUS => of_fmmus(row, lists::fmmus(image, chunk(nums, 1))),
         FMMUEX => of_fmmus(row, lists::fmmu_mappings(image, chunk(nums, 1))),
         PDOS => pdos(row, image, chunk(nums, 1), at(nums, 2)),
@@ -56,22 +61,8 @@ pub(crate) fn listed(row: &mut [u64], answer: ListAnswer, values: usize) -> Repl
     }
 }
 
-fn sm_row(s: SyncManager) -> [u64; 9] {
-    [
-        wide16(s.start_addr),
-        wide16(s.length_bytes),
-        wide8(s.operation_mode),
-        wide8(s.direction),
-        bit(s.ecat_event_enable),
-        bit(s.dls_user_event_enable),
-        bit(s.watchdog_enable),
-        wide8(s.enable),
-        wide8(s.usage_type),
-    ]
-}
-
 fn put_sm(row: &mut [u64], k: usize, s: SyncManager) -> usize {
-    let xs = sm_row(s);
+    let xs = sync_manager_row(s);
     put_all(row, k, &xs)
 }
 
@@ -92,6 +83,37 @@ fn of_sms(row: &mut [u64], r: SyncManagers) -> Reply {
     let sms = r.items;
     let k = put(row, 0, n as u64);
     let end = put_sms(row, k, sms, n);
+    listed(row, answer, end)
+}
+
+// What each is for, as a list of FMMUs has its usages: eight, and eight places that are not used.
+fn usages(sms: [SyncManager; 8]) -> [u8; 16] {
+    [
+        usage_type(sms[0]),
+        usage_type(sms[1]),
+        usage_type(sms[2]),
+        usage_type(sms[3]),
+        usage_type(sms[4]),
+        usage_type(sms[5]),
+        usage_type(sms[6]),
+        usage_type(sms[7]),
+        0,
+        0,
+        0,
+        0,
+        0,
+        0,
+        0,
+        0,
+    ]
+}
+
+fn of_usages(row: &mut [u64], r: SyncManagers) -> Reply {
+    let answer = r.answer;
+    let n = r.count;
+    let sms = r.items;
+    let k = put(row, 0, n as u64);
+    let end = put_fmmus(row, k, usages(sms), n);
     listed(row, answer, end)
 }
 
@@ -122,15 +144,6 @@ fn pdos(row: &mut [u64], image: &[u8], wide: Chunk, number: u64) -> Reply {
         51 => of_pdos(row, lists::maindevice_write_pdos(image, wide)),
         _ => unreadable(row),
     }
-}
-
-fn pdo_row(p: Pdo) -> [u64; 4] {
-    [
-        wide16(p.index),
-        wide8(p.num_entries),
-        wide8(p.sync_manager),
-        wide16(p.bit_len),
-    ]
 }
 
 fn put_pdo(row: &mut [u64], k: usize, p: Pdo) -> usize {

@@ -1,6 +1,5 @@
 // The requests on a port record.
 use crate::numbers::at;
-use crate::numbers::bit;
 use crate::numbers::byte;
 use crate::numbers::long;
 use crate::numbers::word;
@@ -13,6 +12,7 @@ use crate::reply::refuses;
 use crate::reply::unreadable;
 use crate::reply::with_record;
 use crate::reply::with_slice;
+use held::after_assign;
 use ports::Assigned;
 use ports::Link;
 use ports::Port;
@@ -22,6 +22,7 @@ use ports::TextAnswer;
 use ports::TimeAnswer;
 use ports::Topology;
 use ports::TopologyAnswer;
+use wire::flag;
 
 const ENTRY: u64 = 0x656e7472_79202020;
 
@@ -70,7 +71,7 @@ pub(crate) fn answer(name: u64, nums: &[u64], text: &mut [u8], row: &mut [u64]) 
         TIMETO => of_time(row, p.propagation_time_to(byte(nums, 12))),
         BETWEEN => of_time(row, p.intermediate_propagation_time_to(byte(nums, 12))),
         LINKED => of_port(row, p.port_assigned_to(word(nums, 12))),
-        ASSIGN => of_assigned(row, p.assign_next_downstream_port(word(nums, 12))),
+        ASSIGN => of_assigned(row, after_assign(p, word(nums, 12))),
         TIMES => times(p, nums, row),
         DISPLAY => of_text(row, p.display(text)),
         _ => unreadable(row),
@@ -82,25 +83,32 @@ fn link(x: u16) -> Link {
     if x == 0 { Link::Free } else { Link::To(x) }
 }
 
-// The port of this number, from the number at i on.
-fn port(nums: &[u64], i: u8, number: u8) -> Port {
+// The port with the time and the link that stand behind the number at i.
+fn port(p: Port, nums: &[u64], i: u8) -> Port {
     let k = i as usize;
     let downstream_to = link(word(nums, k + 2));
     Port {
-        active: at(nums, k) == 1,
+        active: p.active,
         dc_receive_time: long(nums, k + 1),
-        number,
+        number: p.number,
         downstream_to,
     }
 }
 
 // P, the first twelve numbers.
 fn ports(nums: &[u64]) -> Ports {
+    let fresh = Ports::new(
+        at(nums, 0) == 1,
+        at(nums, 3) == 1,
+        at(nums, 6) == 1,
+        at(nums, 9) == 1,
+    );
+    let a = fresh.0;
     Ports([
-        port(nums, 0, 0),
-        port(nums, 3, 3),
-        port(nums, 6, 1),
-        port(nums, 9, 2),
+        port(a[0], nums, 0),
+        port(a[1], nums, 3),
+        port(a[2], nums, 6),
+        port(a[3], nums, 9),
     ])
 }
 
@@ -114,7 +122,7 @@ fn link_number(l: Link) -> u64 {
 // A port's three numbers behind the record's others.
 fn with_port(r: Reply, row: &mut [u64], p: Port) -> Reply {
     let l = p.downstream_to;
-    let xs = [bit(p.active), p.dc_receive_time as u64, link_number(l)];
+    let xs = [flag(p.active), p.dc_receive_time as u64, link_number(l)];
     with_record(r, row, &xs)
 }
 

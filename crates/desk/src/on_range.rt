@@ -11,13 +11,18 @@ use crate::reply::refuses;
 use crate::reply::unreadable;
 use crate::reply::with_record;
 use crate::reply::with_slice;
-use eeprom::ByteAnswer;
 use eeprom::Chunk;
 use eeprom::Exact;
+use eeprom::ExactRead;
 use eeprom::Range;
 use eeprom::RangeAnswer;
 use eeprom::Reading;
-use eeprom::Writing;
+use held::ByteRead;
+use held::ByteStep;
+use held::CountStep;
+use held::Counted;
+use held::byte_in;
+use held::write_in;
 use refusal::Refusal;
 
 const CRC: u64 = 0x63726320_20202020;
@@ -115,11 +120,20 @@ fn skip(g: Range, n: u16, row: &mut [u64]) -> Reply {
     }
 }
 
-fn byte(image: &[u8], chunk: Chunk, g: Range, row: &mut [u64]) -> Reply {
-    match g.read_byte(image, chunk) {
-        ByteAnswer::Byte(b, after) => one_and_range(row, b as u64, after),
-        ByteAnswer::No(x) => refuses_range(row, x, g),
+fn of_byte(row: &mut [u64], s: ByteStep, end: u16) -> Reply {
+    let answer = s.answer;
+    let after = Range {
+        byte_pos: s.byte_pos,
+        end,
+    };
+    match answer {
+        ByteRead::Byte(b) => one_and_range(row, b as u64, after),
+        ByteRead::No(x) => refuses_range(row, x, after),
     }
+}
+
+fn byte(image: &[u8], chunk: Chunk, g: Range, row: &mut [u64]) -> Reply {
+    of_byte(row, byte_in(image, g.byte_pos, g.end, chunk), g.end)
 }
 
 fn of_reading(row: &mut [u64], r: Reading, g: Range) -> Reply {
@@ -135,30 +149,35 @@ fn read(image: &[u8], chunk: Chunk, g: Range, buf: &mut [u8], row: &mut [u64]) -
     with_slice(of_reading(row, r, g), SECOND, k)
 }
 
-fn of_exact(row: &mut [u64], r: Exact, g: Range) -> Reply {
-    match r {
-        Exact::Full(after) => gives_range(row, after),
-        Exact::Short(after) => refuses_range(row, Refusal::Overrun, after),
-        Exact::No(x) => refuses_range(row, x, g),
+fn of_exact(row: &mut [u64], r: ExactRead) -> Reply {
+    let after = r.range;
+    let answer = r.answer;
+    match answer {
+        Exact::Full => gives_range(row, after),
+        Exact::No(x) => refuses_range(row, x, after),
     }
 }
 
 fn exact(image: &[u8], chunk: Chunk, g: Range, buf: &mut [u8], row: &mut [u64]) -> Reply {
     let k = buf.len();
     let r = g.read_exact(image, chunk, buf);
-    with_slice(of_exact(row, r, g), SECOND, k)
+    with_slice(of_exact(row, r), SECOND, k)
 }
 
-fn of_writing(row: &mut [u64], r: Writing, g: Range) -> Reply {
-    match r {
-        Writing::Written(n, after) => one_and_range(row, n as u64, after),
-        Writing::Stopped(after) => refuses_range(row, Refusal::NotWritable, after),
-        Writing::No(x) => refuses_range(row, x, g),
+fn of_writing(row: &mut [u64], s: CountStep, end: u16) -> Reply {
+    let answer = s.answer;
+    let after = Range {
+        byte_pos: s.byte_pos,
+        end,
+    };
+    match answer {
+        Counted::Bytes(n) => one_and_range(row, n as u64, after),
+        Counted::No(x) => refuses_range(row, x, after),
     }
 }
 
 fn write(image: &mut [u8], g: Range, bytes: &[u8], row: &mut [u64]) -> Reply {
     let k = image.len();
-    let r = g.write(image, bytes);
-    with_slice(of_writing(row, r, g), FIRST, k)
+    let s = write_in(image, g.byte_pos, g.end, bytes);
+    with_slice(of_writing(row, s, g.end), FIRST, k)
 }

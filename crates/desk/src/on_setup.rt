@@ -2,8 +2,6 @@
 use crate::numbers::chunk;
 use crate::numbers::put;
 use crate::numbers::put_all;
-use crate::numbers::wide8;
-use crate::numbers::wide16;
 use crate::on_lists::listed;
 use crate::reply::Reply;
 use crate::reply::gives;
@@ -12,14 +10,15 @@ use crate::reply::refuses;
 use crate::reply::unreadable;
 use clock::DistributedClock;
 use clock::DistributedClocks;
+use clock::clock_row;
 use eeprom::Chunk;
 use setup::BootstrapAnswer;
-use setup::BootstrapMailbox;
 use setup::ChecksumAnswer;
-use setup::Checksums;
 use setup::PdiAnswer;
-use setup::PdiControl;
 use setup::VersionAnswer;
+use setup::bootstrap_row;
+use setup::checksum_row;
+use setup::pdi_row;
 use wire::lesser;
 
 const PDI: u64 = 0x70646920_20202020;
@@ -55,15 +54,6 @@ pub(crate) fn answer(name: u64, nums: &[u64], image: &[u8], row: &mut [u64]) -> 
     }
 }
 
-fn pdi_row(p: PdiControl) -> [u64; 4] {
-    [
-        wide16(p.pdi_control),
-        wide16(p.pdi_configuration),
-        wide16(p.sync_impulse_length),
-        wide16(p.pdi_configuration2),
-    ]
-}
-
 fn of_pdi(row: &mut [u64], r: PdiAnswer) -> Reply {
     match r {
         PdiAnswer::Is(p) => {
@@ -72,15 +62,6 @@ fn of_pdi(row: &mut [u64], r: PdiAnswer) -> Reply {
         }
         PdiAnswer::No(x) => refuses(row, x),
     }
-}
-
-fn bootstrap_row(m: BootstrapMailbox) -> [u64; 4] {
-    [
-        wide16(m.subdevice_receive_offset),
-        wide16(m.subdevice_receive_size),
-        wide16(m.subdevice_send_offset),
-        wide16(m.subdevice_send_size),
-    ]
 }
 
 fn of_bootstrap(row: &mut [u64], r: BootstrapAnswer) -> Reply {
@@ -100,10 +81,6 @@ fn of_version(row: &mut [u64], r: VersionAnswer) -> Reply {
     }
 }
 
-fn checksum_row(c: Checksums) -> [u64; 2] {
-    [wide8(c.stored), wide8(c.computed)]
-}
-
 fn of_checksum(row: &mut [u64], r: ChecksumAnswer) -> Reply {
     match r {
         ChecksumAnswer::Is(c) => {
@@ -112,19 +89,6 @@ fn of_checksum(row: &mut [u64], r: ChecksumAnswer) -> Reply {
         }
         ChecksumAnswer::No(x) => refuses(row, x),
     }
-}
-
-fn clock_row(c: DistributedClock) -> [u64; 8] {
-    [
-        c.cycle_time0 as u64,
-        c.shift_time0 as u64,
-        c.shift_time1 as u64,
-        wide16(c.sync1_cycle_factor),
-        wide16(c.assign_activate),
-        wide16(c.sync0_cycle_factor),
-        wide8(c.name_string_idx),
-        wide8(c.description_string_idx),
-    ]
 }
 
 fn put_clock(row: &mut [u64], k: usize, c: DistributedClock) -> usize {

@@ -1,8 +1,5 @@
 // The requests that read the SII: categories, the fixed area, General; and the one that sets the alias.
-use crate::numbers::bit;
 use crate::numbers::chunk;
-use crate::numbers::wide8;
-use crate::numbers::wide16;
 use crate::numbers::word;
 use crate::reply::FIRST;
 use crate::reply::Reply;
@@ -14,18 +11,26 @@ use crate::reply::refuses;
 use crate::reply::unreadable;
 use crate::reply::with_slice;
 use category::Found;
+use category::InsideAnswer;
 use eeprom::Chunk;
 use sii::AliasAnswer;
 use sii::AliasSet;
-use sii::DefaultMailbox;
 use sii::GeneralAnswer;
 use sii::IdentityAnswer;
 use sii::MailboxAnswer;
-use sii::SiiGeneral;
+use sii::PortsAnswer;
 use sii::SizeAnswer;
-use sii::SubDeviceIdentity;
+use sii::WordAnswer;
+use sii::general_row;
+use sii::has_mailbox;
+use sii::identity_row;
+use sii::mailbox_row;
+use sii::ports_row;
+use wire::flag;
 
 const CATEGORY: u64 = 0x63617465_676f7279;
+
+const INSIDE: u64 = 0x696e7369_64652020;
 
 const ALIAS: u64 = 0x616c6961_73202020;
 
@@ -37,18 +42,28 @@ const IDENTITY: u64 = 0x6964656e_74697479;
 
 const MAILBOX: u64 = 0x6d61696c_626f7820;
 
+const HASMAIL: u64 = 0x6861736d_61696c20;
+
+const PHYSPORT: u64 = 0x70687973_706f7274;
+
+const PHYSADDR: u64 = 0x70687973_61646472;
+
 const GENERAL: u64 = 0x67656e65_72616c20;
 
 // The request's shape; 0 of a name that is not here.
 pub(crate) fn shape(name: u64) -> u64 {
     match name {
         CATEGORY => 0xbc2,
+        INSIDE => 0xbc2,
         ALIAS => 0xbc,
         SIZE => 0xbc,
         SETALIAS => 0xb2,
         IDENTITY => 0xbc,
         MAILBOX => 0xbc,
+        HASMAIL => 0xbc,
         GENERAL => 0xbc,
+        PHYSPORT => 0xbc,
+        PHYSADDR => 0xbc,
         _ => 0,
     }
 }
@@ -59,11 +74,18 @@ pub(crate) fn answer(name: u64, nums: &[u64], image: &mut [u8], row: &mut [u64])
             row,
             category::category(image, chunk(nums, 1), word(nums, 2)),
         ),
+        INSIDE => of_inside(
+            row,
+            category::category_inside(image, chunk(nums, 1), word(nums, 2)),
+        ),
         ALIAS => of_alias(row, sii::station_alias(image, chunk(nums, 1))),
         SIZE => of_size(row, sii::size(image, chunk(nums, 1))),
         SETALIAS => set_alias(image, word(nums, 1), row),
         IDENTITY => of_identity(row, sii::identity(image, chunk(nums, 1))),
         MAILBOX => of_mailbox(row, sii::mailbox_config(image, chunk(nums, 1))),
+        HASMAIL => of_has_mailbox(row, sii::mailbox_config(image, chunk(nums, 1))),
+        PHYSPORT => of_ports(row, sii::physical_ports(image, chunk(nums, 1))),
+        PHYSADDR => of_word(row, sii::physical_memory_address(image, chunk(nums, 1))),
         GENERAL => of_general(row, sii::general(image, chunk(nums, 1))),
         _ => unreadable(row),
     }
@@ -77,6 +99,13 @@ fn of_found(row: &mut [u64], r: Found) -> Reply {
         }
         Found::Absent => absent(),
         Found::No(x) => refuses(row, x),
+    }
+}
+
+fn of_inside(row: &mut [u64], r: InsideAnswer) -> Reply {
+    match r {
+        InsideAnswer::Inside(b) => gives_one(row, flag(b)),
+        InsideAnswer::No(x) => refuses(row, x),
     }
 }
 
@@ -107,15 +136,6 @@ fn set_alias(image: &mut [u8], alias: u16, row: &mut [u64]) -> Reply {
     with_slice(of_set(row, r), FIRST, k)
 }
 
-fn identity_row(d: SubDeviceIdentity) -> [u64; 4] {
-    [
-        d.vendor_id as u64,
-        d.product_id as u64,
-        d.revision as u64,
-        d.serial as u64,
-    ]
-}
-
 fn of_identity(row: &mut [u64], r: IdentityAnswer) -> Reply {
     match r {
         IdentityAnswer::Is(d) => {
@@ -124,16 +144,6 @@ fn of_identity(row: &mut [u64], r: IdentityAnswer) -> Reply {
         }
         IdentityAnswer::No(x) => refuses(row, x),
     }
-}
-
-fn mailbox_row(m: DefaultMailbox) -> [u64; 5] {
-    [
-        m.subdevice_receive_offset as u64,
-        m.subdevice_receive_size as u64,
-        m.subdevice_send_offset as u64,
-        m.subdevice_send_size as u64,
-        m.supported_protocols as u64,
-    ]
 }
 
 fn of_mailbox(row: &mut [u64], r: MailboxAnswer) -> Reply {
@@ -146,23 +156,28 @@ fn of_mailbox(row: &mut [u64], r: MailboxAnswer) -> Reply {
     }
 }
 
-fn general_row(g: SiiGeneral) -> [u64; 14] {
-    [
-        wide8(g.group_string_idx),
-        wide8(g.image_string_idx),
-        wide8(g.order_string_idx),
-        wide8(g.name_string_idx),
-        wide8(g.coe_details),
-        bit(g.foe_enabled),
-        bit(g.eoe_enabled),
-        wide8(g.flags),
-        wide16(g.ebus_current),
-        wide8(g.port0),
-        wide8(g.port1),
-        wide8(g.port2),
-        wide8(g.port3),
-        wide16(g.physical_memory_addr),
-    ]
+fn of_has_mailbox(row: &mut [u64], r: MailboxAnswer) -> Reply {
+    match r {
+        MailboxAnswer::Is(m) => gives_one(row, flag(has_mailbox(m))),
+        MailboxAnswer::No(x) => refuses(row, x),
+    }
+}
+
+fn of_ports(row: &mut [u64], r: PortsAnswer) -> Reply {
+    match r {
+        PortsAnswer::Is(p) => {
+            let xs = ports_row(p);
+            gives(row, &xs)
+        }
+        PortsAnswer::No(x) => refuses(row, x),
+    }
+}
+
+fn of_word(row: &mut [u64], r: WordAnswer) -> Reply {
+    match r {
+        WordAnswer::Word(n) => gives_one(row, n as u64),
+        WordAnswer::No(x) => refuses(row, x),
+    }
 }
 
 fn of_general(row: &mut [u64], r: GeneralAnswer) -> Reply {

@@ -12,6 +12,7 @@ use crate::reply::refuses;
 use crate::reply::with_record;
 use crate::reply::with_slice;
 use created_frame::Builder;
+use created_frame::state_row;
 use spread::SpreadAnswer;
 use spread::Spreading;
 use wire::lesser;
@@ -27,7 +28,7 @@ pub(crate) fn shape(name: u64) -> u64 {
 }
 
 fn put_state(row: &mut [u64], k: usize, b: Builder) -> usize {
-    let xs = [b.used as u64, b.count as u64, b.last as u64];
+    let xs = state_row(b);
     put_all(row, k, &xs)
 }
 

@@ -1,11 +1,11 @@
--- Worked cases of a range, by computing: the edges that document 01 names, each as an equation of a definition.
+-- Worked cases of a range, by computing: the edges that RULES, range, names, each as an equation of a definition.
 use mathlib.Core.Path.{_≡_, refl}
 use mathlib.Core.List.{List, [], _∷_}
 use Prim.Native.Nat.{ℕ}
 use Rattle.refusal.specs.Said.{gives, refuses}
 use Rattle.wire.specs.Bytes.{byteAt, span, filled, overlay}
 use Rattle.eeprom.specs.Image.{within, fine}
-use Rattle.eeprom.specs.Range.{newSaid, startSaid, skipIn, skipSaid, readBuf, exactSaid, words, wrote, writeSaid, writeImage}
+use Rattle.eeprom.specs.Range.{newSaid, startSaid, skipIn, skipSaid, readBuf, exactSaid, exactPos, padded, wordsAsked, wordsIn, wordsWritten, writeIn, writeSaid, writePos, wordsLaid, writeImage}
 
 abbrev pub eight : List ℕ
 eight = 10 ∷ 11 ∷ 12 ∷ 13 ∷ 14 ∷ 15 ∷ 16 ∷ 17 ∷ []
@@ -20,22 +20,69 @@ pub record Cases : Type 0 where
   pub skip-in-full : skipSaid 65535 65534 65535 ≡ refuses 2 []
   pub odd-end : skipSaid 0 5 1 ≡ refuses 14 []
   -- an exact read that does not fit fills what there is
-  pub short-said : exactSaid eight 5 8 4 ≡ refuses 2 (8 ∷ 8 ∷ [])
+  pub short-said : exactSaid eight 5 8 4 ≡ refuses 2 []
+  pub short-stands : exactPos eight 5 8 4 ≡ 8
   pub short-buf : readBuf eight 5 8 (1 ∷ 2 ∷ 3 ∷ 4 ∷ []) ≡ 15 ∷ 16 ∷ 17 ∷ 4 ∷ []
   -- .. and stays where it stands if past the end
-  pub past-said : exactSaid eight 9 8 4 ≡ refuses 2 (9 ∷ 8 ∷ [])
+  pub past-said : exactSaid eight 9 8 4 ≡ refuses 2 []
+  pub past-stands : exactPos eight 9 8 4 ≡ 9
   -- past the image bytes read as 0xFF
   pub past-image : readBuf eight 6 10 (1 ∷ 2 ∷ 3 ∷ 4 ∷ []) ≡ 16 ∷ 17 ∷ 255 ∷ 255 ∷ []
   -- at an odd position the word that contains it is written
-  pub odd-said : writeSaid eight 3 4 (0x61 ∷ 0x62 ∷ []) ≡ gives (2 ∷ 5 ∷ 4 ∷ [])
+  pub odd-said : writeSaid eight 3 4 (0x61 ∷ 0x62 ∷ []) ≡ gives (2 ∷ [])
+  pub odd-stands : writePos eight 3 4 (0x61 ∷ 0x62 ∷ []) ≡ 5
   pub odd-image : writeImage eight 3 4 (0x61 ∷ 0x62 ∷ []) ≡ 10 ∷ 11 ∷ 0x61 ∷ 0x62 ∷ 14 ∷ 15 ∷ 16 ∷ 17 ∷ []
   -- an odd last byte is padded, and the padding counted
-  pub padded-said : writeSaid eight 0 8 (1 ∷ 2 ∷ 3 ∷ []) ≡ gives (4 ∷ 4 ∷ 8 ∷ [])
+  pub padded-said : writeSaid eight 0 8 (1 ∷ 2 ∷ 3 ∷ []) ≡ gives (4 ∷ [])
+  pub padded-stands : writePos eight 0 8 (1 ∷ 2 ∷ 3 ∷ []) ≡ 4
   pub padded-image : writeImage eight 0 8 (1 ∷ 2 ∷ 3 ∷ []) ≡ 1 ∷ 2 ∷ 3 ∷ 0 ∷ 14 ∷ 15 ∷ 16 ∷ 17 ∷ []
   -- a word that is not wholly in the image stops the write, and the words before it stay written
-  pub stopped-said : writeSaid eight 6 12 (1 ∷ 2 ∷ 3 ∷ 4 ∷ []) ≡ refuses 7 (8 ∷ 12 ∷ [])
+  pub stopped-said : writeSaid eight 6 12 (1 ∷ 2 ∷ 3 ∷ 4 ∷ []) ≡ refuses 7 []
+  pub stopped-stands : writePos eight 6 12 (1 ∷ 2 ∷ 3 ∷ 4 ∷ []) ≡ 8
   pub stopped-image : writeImage eight 6 12 (1 ∷ 2 ∷ 3 ∷ 4 ∷ []) ≡ 10 ∷ 11 ∷ 12 ∷ 13 ∷ 14 ∷ 15 ∷ 1 ∷ 2 ∷ []
+  -- half a word at the image's end is not written
+  pub half-said : writeSaid (1 ∷ 2 ∷ 3 ∷ []) 2 8 (9 ∷ 9 ∷ []) ≡ refuses 7 []
+  pub half-image : writeImage (1 ∷ 2 ∷ 3 ∷ []) 2 8 (9 ∷ 9 ∷ []) ≡ 1 ∷ 2 ∷ 3 ∷ []
+  -- the end clips: of four bytes two are written, and that is no refusal
+  pub clipped-said : writeSaid eight 2 4 (1 ∷ 2 ∷ 3 ∷ 4 ∷ []) ≡ gives (2 ∷ [])
+  pub clipped-image : writeImage eight 2 4 (1 ∷ 2 ∷ 3 ∷ 4 ∷ []) ≡ 10 ∷ 11 ∷ 1 ∷ 2 ∷ 14 ∷ 15 ∷ 16 ∷ 17 ∷ []
+  -- at the highest odd position before the end the word is asked for; at 65,535, past every end, none is
+  pub high-said : writeSaid eight 65533 65534 (1 ∷ []) ≡ refuses 7 []
+  pub high-stands : writePos eight 65533 65534 (1 ∷ []) ≡ 65533
+  pub highest-said : writeSaid eight 65535 65534 (1 ∷ []) ≡ gives (0 ∷ [])
+  pub highest-stands : writePos eight 65535 65534 (1 ∷ []) ≡ 65535
 
 pub cases : Cases
-unfolding newSaid startSaid skipSaid skipIn exactSaid fine within readBuf filled span byteAt writeSaid wrote words writeImage overlay
-cases = record { highest = refl; too-high = refl; odd-length = refl; on-the-end = refl; skip-in-full = refl; odd-end = refl; short-said = refl; short-buf = refl; past-said = refl; past-image = refl; odd-said = refl; odd-image = refl; padded-said = refl; padded-image = refl; stopped-said = refl; stopped-image = refl }
+unfolding newSaid startSaid skipSaid skipIn exactSaid exactPos fine within readBuf filled span byteAt writeSaid writeIn writePos wordsWritten wordsAsked wordsIn wordsLaid padded writeImage overlay
+cases =
+    record {
+      highest = refl;
+      too-high = refl;
+      odd-length = refl;
+      on-the-end = refl;
+      skip-in-full = refl;
+      odd-end = refl;
+      short-said = refl;
+      short-stands = refl;
+      short-buf = refl;
+      past-said = refl;
+      past-stands = refl;
+      past-image = refl;
+      odd-said = refl;
+      odd-stands = refl;
+      odd-image = refl;
+      padded-said = refl;
+      padded-stands = refl;
+      padded-image = refl;
+      stopped-said = refl;
+      stopped-stands = refl;
+      stopped-image = refl;
+      half-said = refl;
+      half-image = refl;
+      clipped-said = refl;
+      clipped-image = refl;
+      high-said = refl;
+      high-stands = refl;
+      highest-said = refl;
+      highest-stands = refl;
+    }

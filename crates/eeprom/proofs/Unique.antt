@@ -1,28 +1,10 @@
 -- An answer is known from what it says, by an inverse of its map into Said: so a promise on what is said allows one answer.
 use Prim.Native.Nat.{ℕ}
-use mathlib.Core.Path.{_≡_, refl, ap}
+use mathlib.Core.Path.{_≡_, refl, sym, ap, _∙_}
 use mathlib.Core.List.{List}
-use mathlib.Core.Bool.{Bool, false, _&&_}
-use lib.ListN.{length, getD}
-use lib.Dec.{ltb, eqb}
-use Rattle.refusal.specs.Said.{Said, gives, absent, refuses, numberOf, valuesOf, pick}
-use Rattle.refusal.specs.declared.Refusal.{Refusal}
-use Rattle.refusal.specs.declared.Refusal.the-variants.{
-  Address,
-  Overrun,
-  NoCategory,
-  StringTooLong,
-  Decode,
-  Capacity,
-  NotWritable,
-  TooLong,
-  NoPort,
-  BadPort,
-  Sum,
-  BadFrame,
-  NoRoom,
-  BadArgument,
-}
+use lib.ListN.{getD}
+use Rattle.refusal.specs.Said.{Said, gives, absent, refuses}
+use Rattle.refusal.specs.declared.Refusal.the-variants.{Address}
 use Rattle.refusal.proofs.Unique.{unique, refusalOf, back}
 use Rattle.eeprom.specs.Answers.{saidRange, saidByte, saidReading, saidExact, saidWriting}
 use Rattle.eeprom.specs.declared.Range.{Range}
@@ -34,8 +16,10 @@ use Rattle.eeprom.specs.declared.Reading.{Reading}
 use Rattle.eeprom.specs.declared.Reading.the-variants as reading
 use Rattle.eeprom.specs.declared.Exact.{Exact}
 use Rattle.eeprom.specs.declared.Exact.the-variants as exact
+use Rattle.eeprom.specs.declared.ExactRead.{ExactRead}
 use Rattle.eeprom.specs.declared.Writing.{Writing}
 use Rattle.eeprom.specs.declared.Writing.the-variants as writing
+use Rattle.eeprom.specs.declared.WordsWritten.{WordsWritten}
 
 -- the range whose position is the list's value at i, and whose end follows it
 abbrev at : List ℕ → ℕ → ℕ → Range
@@ -86,56 +70,40 @@ reading-back (reading.No x) = ap reading.No (back x)
 pub reading-unique : (a b : Reading) (s : Said) → saidReading a ≡ s → saidReading b ≡ s → a ≡ b
 reading-unique = unique saidReading readingOf reading-back
 
--- ---- a refusal that comes with the range: it has values, where the refusal of that number alone has none
-
-unfoldable moved : ℕ → ℕ → List ℕ → Bool
-moved k n l = ltb 0 (length l) && eqb n k
-
-moved-not : (k : ℕ) → eqb 4 k ≡ false → (x : Refusal) → moved k (numberOf x) (valuesOf x) ≡ false
-unfolding moved
-moved-not k h Address = refl
-moved-not k h Overrun = refl
-moved-not k h NoCategory = refl
-moved-not k h (StringTooLong r s) = h
-moved-not k h Decode = refl
-moved-not k h Capacity = refl
-moved-not k h NotWritable = refl
-moved-not k h TooLong = refl
-moved-not k h NoPort = refl
-moved-not k h BadPort = refl
-moved-not k h Sum = refl
-moved-not k h BadFrame = refl
-moved-not k h NoRoom = refl
-moved-not k h BadArgument = refl
-
 -- ---- an exact read
 
 unfoldable exactOf : Said → Exact
-exactOf (gives l) = exact.Full (at l 0 1)
+exactOf (gives l) = exact.Full
 exactOf absent = exact.No Address
-exactOf (refuses n l) = pick (moved 2 n l) (exact.Short (at l 0 1)) (exact.No (refusalOf n l))
+exactOf (refuses n l) = exact.No (refusalOf n l)
 
 exact-back : (r : Exact) → exactOf (saidExact r) ≡ r
-unfolding exactOf moved
-exact-back (exact.Full g) = refl
-exact-back (exact.Short g) = refl
-exact-back (exact.No x) = rw (moved-not 2 refl x) (ap exact.No (back x))
+unfolding exactOf
+exact-back exact.Full = refl
+exact-back (exact.No x) = ap exact.No (back x)
 
 pub exact-unique : (a b : Exact) (s : Said) → saidExact a ≡ s → saidExact b ≡ s → a ≡ b
 exact-unique = unique saidExact exactOf exact-back
 
+-- with the range beside it
+pub exact-read-unique : (a b : ExactRead) (s : Said) (g : Range) → (saidExact (a .answer) ≡ s) × (a .range ≡ g) → (saidExact (b .answer) ≡ s) × (b .range ≡ g) → a ≡ b
+exact-read-unique a b s g p q i = record { answer = exact-unique (a .answer) (b .answer) s (p .0) (q .0) i; range = (p .1 ∙ sym (q .1)) i }
+
 -- ---- a write
 
 unfoldable writingOf : Said → Writing
-writingOf (gives l) = writing.Written (getD l 0 0) (at l 1 2)
+writingOf (gives l) = writing.Written (getD l 0 0)
 writingOf absent = writing.No Address
-writingOf (refuses n l) = pick (moved 7 n l) (writing.Stopped (at l 0 1)) (writing.No (refusalOf n l))
+writingOf (refuses n l) = writing.No (refusalOf n l)
 
 writing-back : (r : Writing) → writingOf (saidWriting r) ≡ r
-unfolding writingOf moved
-writing-back (writing.Written n g) = refl
-writing-back (writing.Stopped g) = refl
-writing-back (writing.No x) = rw (moved-not 7 refl x) (ap writing.No (back x))
+unfolding writingOf
+writing-back (writing.Written n) = refl
+writing-back (writing.No x) = ap writing.No (back x)
 
 pub writing-unique : (a b : Writing) (s : Said) → saidWriting a ≡ s → saidWriting b ≡ s → a ≡ b
 writing-unique = unique saidWriting writingOf writing-back
+
+-- with the range beside it
+pub words-written-unique : (a b : WordsWritten) (s : Said) (g : Range) → (saidWriting (a .answer) ≡ s) × (a .range ≡ g) → (saidWriting (b .answer) ≡ s) × (b .range ≡ g) → a ≡ b
+words-written-unique a b s g p q i = record { answer = writing-unique (a .answer) (b .answer) s (p .0) (q .0) i; range = (p .1 ∙ sym (q .1)) i }

@@ -1,6 +1,6 @@
--- What each answer says, in document 01's numbers and values. A range is said by its position and its end.
+-- What each answer says, in numbers and values (RULES, refusals). A range is said by its position and its end.
 use mathlib.Core.List.{[], _∷_}
-use Rattle.refusal.specs.Said.{Said, gives, refuses, saidOf}
+use Rattle.refusal.specs.Said.{Said, gives, saidOf}
 use Rattle.eeprom.specs.declared.RangeAnswer.{RangeAnswer}
 use Rattle.eeprom.specs.declared.RangeAnswer.the-variants as range
 use Rattle.eeprom.specs.declared.ByteAnswer.{ByteAnswer}
@@ -27,14 +27,12 @@ abbrev pub saidReading : Reading → Said
 saidReading (reading.Took n g) = gives (n ∷ g .«byte_pos» ∷ g .end ∷ [])
 saidReading (reading.No x) = saidOf x
 
--- a short exact read is refusal 2, with the range as it then stands
+-- done is said with no values; where the range stands is beside the answer
 abbrev pub saidExact : Exact → Said
-saidExact (exact.Full g) = gives (g .«byte_pos» ∷ g .end ∷ [])
-saidExact (exact.Short g) = refuses 2 (g .«byte_pos» ∷ g .end ∷ [])
+saidExact exact.Full = gives []
 saidExact (exact.No x) = saidOf x
 
--- a write that stopped is refusal 7, with the range as it then stands
+-- how many bytes were written; where the range stands is beside the answer
 abbrev pub saidWriting : Writing → Said
-saidWriting (writing.Written n g) = gives (n ∷ g .«byte_pos» ∷ g .end ∷ [])
-saidWriting (writing.Stopped g) = refuses 7 (g .«byte_pos» ∷ g .end ∷ [])
+saidWriting (writing.Written n) = gives (n ∷ [])
 saidWriting (writing.No x) = saidOf x

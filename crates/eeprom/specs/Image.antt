@@ -1,4 +1,4 @@
--- The lent image and its chunks: document 01, 'The EEPROM range', first point. Definitions only.
+-- The lent image and its chunks: RULES, range. Definitions only.
 use Prim.Native.Nat.{ℕ, _*_, _%_}
 use mathlib.Core.List.{List}
 use mathlib.Core.Bool.{Bool, _&&_}
@@ -16,7 +16,15 @@ imageMost = 65536
 abbrev pub endMost : ℕ
 endMost = 65535
 
--- the image has no more bytes than that
+-- the largest number of 32 bits: places and counts of the readers behind the public calls stay within it
+abbrev pub longMost : ℕ
+longMost = 4294967295
+
+-- far past every place that 32 bits name: within it a sum of places does not overflow
+abbrev pub farMost : ℕ
+farMost = 1099511627776
+
+-- the image has no more bytes than an image may have
 unfoldable pub within : List ℕ → Bool
 within image = leb (length image) imageMost
 

@@ -1,12 +1,17 @@
--- The rules of a range: document 01, 'The EEPROM range' and 'When the desk says no'. Definitions only, in plain numbers.
+-- The rules of a range: RULES, range and refusals. Definitions only, in plain numbers.
 -- A range is its position and its end, both counted in bytes from the image's start.
 use Prim.Native.Nat.{ℕ, _+_, _-_, _*_, _/_, _%_, min, max}
-use mathlib.Core.List.{List, [], _∷_}
-use lib.ListN.{length}
+use mathlib.Core.List.{List, [], _∷_, _++_}
+use lib.ListN.{length, take, replicate}
 use lib.Dec.{leb, ltb, eqb}
 use Rattle.refusal.specs.Said.{Said, gives, refuses, pick}
 use Rattle.wire.specs.Bytes.{byteAt, filled, overlay}
 use Rattle.eeprom.specs.Image.{endMost, fine}
+use Rattle.eeprom.specs.declared.Range.{Range}
+
+-- a range, at another position
+abbrev pub standing : Range → ℕ → Range
+standing g pos = record { «byte_pos» = pos; end = g .end }
 
 -- ---- making a range
 
@@ -53,48 +58,73 @@ readSaid image pos end k =
 unfoldable pub readBuf : List ℕ → ℕ → ℕ → List ℕ → List ℕ
 readBuf image pos end buf = pick (fine image end) (filled image pos (taken pos end (length buf)) buf) buf
 
--- an exact read of k bytes: what does not fit is refused, and stands at the end, or stays if past it
+-- what an exact read of k bytes says where there are n: what does not fit is refused (RULES, refusals: 2)
+abbrev pub allSaid : ℕ → ℕ → Said
+allSaid n k = pick (ltb n k) (refuses 2 []) (gives [])
+
+-- what an exact read of k bytes says (RULES, range): no byte always succeeds
 unfoldable pub exactSaid : List ℕ → ℕ → ℕ → ℕ → Said
-exactSaid image pos end k =
-    pick (fine image end)
-    (pick (leb k (end - pos)) (gives ((pos + k) ∷ end ∷ [])) (refuses 2 (max pos end ∷ end ∷ [])))
-    (refuses 14 [])
+exactSaid image pos end k = pick (fine image end) (allSaid (end - pos) k) (refuses 14 [])
+
+-- where it stands after that: behind what it read; refused with 2 at the end, or where it was if that is past the end (RULES, refusals)
+unfoldable pub exactPos : List ℕ → ℕ → ℕ → ℕ → ℕ
+exactPos image pos end k = pick (fine image end) (pick (ltb (end - pos) k) (max pos end) (pos + k)) pos
+
+-- the range after it
+abbrev pub exactRange : List ℕ → Range → ℕ → Range
+exactRange image g k = standing g (exactPos image (g .«byte_pos») (g .end) k)
 
 -- it fills what there is, as a read does
 abbrev pub exactBuf : List ℕ → ℕ → ℕ → List ℕ → List ℕ
 exactBuf = readBuf
 
--- ---- writing
+-- ---- writing: m words of the data, laid from the word that contains the position on (RULES, range)
 
--- bytes as words of two, an odd last byte padded with 0
-unfoldable pub words : List ℕ → List (List ℕ)
-words [] = []
-words (a ∷ []) = (a ∷ 0 ∷ []) ∷ []
-words (a ∷ b ∷ rest) = (a ∷ b ∷ []) ∷ words rest
+-- how many words hold n bytes
+abbrev pub wordsFor : ℕ → ℕ
+wordsFor n = (n + 1) / 2
 
 -- the first byte of the word that contains a position
 abbrev pub wordStart : ℕ → ℕ
 wordStart pos = 2 * (pos / 2)
 
--- what a write leaves, and what it says
-pub record Wrote : Type 0 where
-  pub image : List ℕ
-  pub said : Said
+-- the data as whole words: an odd last byte is padded with 0
+unfoldable pub padded : List ℕ → List ℕ
+padded bytes = bytes ++ replicate (length bytes % 2) 0
 
--- words written one by one while the position is before the end, n bytes so far: each must lie wholly in the image
-unfoldable pub wrote : List ℕ → ℕ → ℕ → ℕ → List (List ℕ) → Wrote
-wrote image n pos end [] = record { image = image; said = gives (n ∷ pos ∷ end ∷ []) }
-wrote image n pos end (word ∷ rest) =
-    pick (ltb pos end)
-    (pick (leb (wordStart pos + 2) (length image))
-    (wrote (overlay image (wordStart pos) word) (n + 2) (pos + 2) end rest)
-    (record { image = image; said = refuses 7 (pos ∷ end ∷ []) }))
-    (record { image = image; said = gives (n ∷ pos ∷ end ∷ []) })
+-- the words that range and data ask for: a word advances by 2, while the position is before the end and bytes remain of k
+unfoldable pub wordsAsked : ℕ → ℕ → ℕ → ℕ
+wordsAsked pos end k = min (wordsFor (end - pos)) (wordsFor k)
+
+-- the words that lie wholly in an image of so many bytes, from the one that contains the position on
+unfoldable pub wordsIn : ℕ → ℕ → ℕ
+wordsIn size pos = size / 2 - pos / 2
+
+-- the words that are written: m
+unfoldable pub wordsWritten : ℕ → ℕ → ℕ → ℕ → ℕ
+wordsWritten size pos end k = min (wordsAsked pos end k) (wordsIn size pos)
+
+-- a write of k bytes says how many bytes it wrote, the padding counted; where m is less than the words asked for, it is refused (RULES, refusals: 7)
+unfoldable pub writeIn : ℕ → ℕ → ℕ → ℕ → Said
+writeIn size pos end k =
+    pick (ltb (wordsWritten size pos end k) (wordsAsked pos end k)) (refuses 7 []) (gives (2 * wordsWritten size pos end k ∷ []))
 
 -- what a write says
 unfoldable pub writeSaid : List ℕ → ℕ → ℕ → List ℕ → Said
-writeSaid image pos end bytes = pick (fine image end) (wrote image 0 pos end (words bytes) .said) (refuses 14 [])
+writeSaid image pos end bytes = pick (fine image end) (writeIn (length image) pos end (length bytes)) (refuses 14 [])
+
+-- where it stands after that: behind the words written
+unfoldable pub writePos : List ℕ → ℕ → ℕ → List ℕ → ℕ
+writePos image pos end bytes = pick (fine image end) (pos + 2 * wordsWritten (length image) pos end (length bytes)) pos
+
+-- the range after it
+abbrev pub writeRange : List ℕ → Range → List ℕ → Range
+writeRange image g bytes = standing g (writePos image (g .«byte_pos») (g .end) bytes)
+
+-- the image with m words of the data laid over it, from the word that contains the position on
+unfoldable pub wordsLaid : List ℕ → ℕ → ℕ → List ℕ → List ℕ
+wordsLaid image pos m bytes = overlay image (wordStart pos) (take (2 * m) (padded bytes))
 
 -- what a write leaves in the image
 unfoldable pub writeImage : List ℕ → ℕ → ℕ → List ℕ → List ℕ
-writeImage image pos end bytes = pick (fine image end) (wrote image 0 pos end (words bytes) .image) image
+writeImage image pos end bytes = pick (fine image end) (wordsLaid image pos (wordsWritten (length image) pos end (length bytes)) bytes) image

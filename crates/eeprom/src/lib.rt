@@ -1,5 +1,5 @@
 // The lent EEPROM image, read in chunks, and a range of it: a plain record beside the image.
-// Follows src/eeprom/mod.rs (`EepromDataProvider`, `EepromRange`) and document 01, 'The EEPROM range'.
+// Follows src/eeprom/mod.rs (`EepromDataProvider`, `EepromRange`) and RULES, range.
 use refusal::Refusal;
 use wire::byte_at;
 use wire::lay;
@@ -10,8 +10,8 @@ ghost use mathlib.Core.List.{[], _∷_};
 ghost use Prim.Native.Nat.{_+_, _-_, _*_, _%_, _≤_, _<_};
 ghost use lib.ListN.{length, getD};
 ghost use Rattle.wire.specs.Bytes.{byteAt, le16, le32, span, filled, overlay};
-ghost use Rattle.eeprom.specs.Image.{endMost, within, fine, widthOf, chunkOf};
-ghost use Rattle.eeprom.specs.Range.{newSaid, startSaid, byteIn, byteSaid, skipSaid, readSaid, readBuf, exactSaid, exactBuf, words, wrote, writeSaid, writeImage};
+ghost use Rattle.eeprom.specs.Image.{endMost, longMost, farMost, within, fine, widthOf, chunkOf};
+ghost use Rattle.eeprom.specs.Range.{newSaid, startSaid, byteIn, byteSaid, skipSaid, readSaid, readBuf, allSaid, exactSaid, exactRange, exactBuf, wordsWritten, wordsLaid, writeIn, writeSaid, writeRange, writeImage};
 ghost use Rattle.eeprom.specs.Answers.{saidRange, saidByte, saidReading, saidExact, saidWriting};
 
 // The width of a chunk.
@@ -49,22 +49,36 @@ pub enum Reading {
     No(Refusal),
 }
 
-// The range after an exact read; a short one is refusal 2.
+// What an exact read answers.
 pub enum Exact {
-    Full(Range),
-    Short(Range),
+    // The whole buffer was read into.
+    Full,
+    // 14, then 2: the range has less.
     No(Refusal),
 }
 
-// How many bytes were written, and the range after them; a write that met a word not wholly in the image is refusal 7.
+// An exact read's answer, and the range as it then stands.
+pub struct ExactRead {
+    pub answer: Exact,
+    pub range: Range,
+}
+
+// What a write answers.
 pub enum Writing {
-    Written(Pos, Range),
-    Stopped(Range),
+    // How many bytes, the padding counted.
+    Written(Pos),
+    // 14, then 7: a word to write is not wholly in the image.
     No(Refusal),
+}
+
+// A write's answer, and the range as it then stands.
+pub struct WordsWritten {
+    pub answer: Writing,
+    pub range: Range,
 }
 
 // The most bytes that an image has.
-const IMAGE_MOST: usize = 65536;
+pub const IMAGE_MOST: usize = 65536;
 
 // The largest end of a range, and the largest position.
 const END_MOST: u32 = 65535;
@@ -88,7 +102,7 @@ fn width(chunk: Chunk) -> usize
 
 // Copies n bytes of the image, from pos on, to the front of buf.
 fn copy_out(image: &[u8], pos: usize, n: usize, buf: &mut [u8])
-    requires { ⌜ (n ≤ length (now buf)) × (pos + n ≤ 1099511627776) ⌝ }
+    requires { ⌜ (n ≤ length (now buf)) × (pos + n ≤ farMost) ⌝ }
     ensures { λ _. ⌜ now (buf .exit) ≡ filled (now (image .entry)) pos n (now (buf .entry)) ⌝ }
 {
     let mut i = 0;
@@ -99,6 +113,7 @@ fn copy_out(image: &[u8], pos: usize, n: usize, buf: &mut [u8])
 }
 
 // The chunk from a word on: its bytes at the front of eight, the others 0. Past the image a byte reads as 0xFF.
+// This and the three readers after it are total: they take an image of any length and refuse nothing. The calls on a range refuse one of more than IMAGE_MOST bytes (14).
 pub fn read_chunk(image: &[u8], start_word: u32, chunk: Chunk) -> [u8; 8]
     ensures { λ r. ⌜ r ≡ chunkOf (now (image .entry)) «start_word» (widthOf chunk) ⌝ }
 {
@@ -221,27 +236,29 @@ impl Range {
         }
     }
 
-    // Reads into the whole of buf; where the range has less, into as much of it.
-    pub fn read_exact(self, image: &[u8], chunk: Chunk, buf: &mut [u8]) -> Exact
-        ensures said { λ r. ⌜ saidExact r ≡ exactSaid (now (image .entry)) (self .«byte_pos») (self .end) (length (now (buf .entry))) ⌝ }
+    // Reads into the whole of buf; where the range has less, into as much of it. Refuses 14, then 2, which stands at the end.
+    pub fn read_exact(self, image: &[u8], chunk: Chunk, buf: &mut [u8]) -> ExactRead
+        ensures said { λ r. ⌜ saidExact (r .answer) ≡ exactSaid (now (image .entry)) (self .«byte_pos») (self .end) (length (now (buf .entry))) ⌝ }
+        ensures stands { λ r. ⌜ r .range ≡ exactRange (now (image .entry)) self (length (now (buf .entry))) ⌝ }
         ensures lent { λ _. ⌜ now (buf .exit) ≡ exactBuf (now (image .entry)) (self .«byte_pos») (self .end) (now (buf .entry)) ⌝ }
     {
         let k = buf.len();
         match self.read(image, chunk, buf) {
-            Reading::Took(n, after) => {
-                if (n as usize) < k {
-                    Exact::Short(after)
-                } else {
-                    Exact::Full(after)
-                }
-            }
-            Reading::No(x) => Exact::No(x),
+            Reading::Took(n, after) => ExactRead {
+                answer: all_of(n as usize, k),
+                range: after,
+            },
+            Reading::No(x) => ExactRead {
+                answer: Exact::No(x),
+                range: self,
+            },
         }
     }
 
-    // Writes the bytes as words, while the position is before the end.
-    pub fn write(self, image: &mut [u8], bytes: &[u8]) -> Writing
-        ensures said { λ r. ⌜ saidWriting r ≡ writeSaid (now (image .entry)) (self .«byte_pos») (self .end) (now (bytes .entry)) ⌝ }
+    // Writes the bytes as words, while the position is before the end. Refuses 14, then 7, which keeps the words already written and stands after them.
+    pub fn write(self, image: &mut [u8], bytes: &[u8]) -> WordsWritten
+        ensures said { λ r. ⌜ saidWriting (r .answer) ≡ writeSaid (now (image .entry)) (self .«byte_pos») (self .end) (now (bytes .entry)) ⌝ }
+        ensures stands { λ r. ⌜ r .range ≡ writeRange (now (image .entry)) self (now (bytes .entry)) ⌝ }
         ensures lent { λ _. ⌜ now (image .exit) ≡ writeImage (now (image .entry)) (self .«byte_pos») (self .end) (now (bytes .entry)) ⌝ }
     {
         let pos = self.byte_pos;
@@ -249,7 +266,10 @@ impl Range {
         if sound(image, end) {
             write_words(image, pos, end, bytes)
         } else {
-            Writing::No(Refusal::BadArgument)
+            WordsWritten {
+                answer: Writing::No(Refusal::BadArgument),
+                range: self,
+            }
         }
     }
 }
@@ -283,6 +303,17 @@ fn byte_in(image: &[u8], chunk: Chunk, pos: Pos, end: Pos) -> ByteAnswer
     }
 }
 
+// Whether n bytes are all of k.
+fn all_of(n: usize, k: usize) -> Exact
+    ensures { λ r. ⌜ saidExact r ≡ allSaid n k ⌝ }
+{
+    if n < k {
+        Exact::No(Refusal::Overrun)
+    } else {
+        Exact::Full
+    }
+}
+
 // How many bytes are left of a range.
 fn left(pos: Pos, end: Pos) -> usize
     ensures { λ r. ⌜ r ≡ end - pos ⌝ }
@@ -302,7 +333,7 @@ fn lay_chunk(image: &[u8], chunk: Chunk, pos: u32, m: usize, buf: &mut [u8], at:
 
 // Copies n bytes of the image, from pos on, to the front of buf, a chunk at a time. A chunk starts at a word.
 fn read_chunks(image: &[u8], chunk: Chunk, pos: u32, n: usize, buf: &mut [u8])
-    requires { ⌜ (n ≤ length (now buf)) × (pos + n ≤ 4294967295) ⌝ }
+    requires { ⌜ (n ≤ length (now buf)) × (pos + n ≤ longMost) ⌝ }
     ensures { λ _. ⌜ now (buf .exit) ≡ filled (now (image .entry)) pos n (now (buf .entry)) ⌝ }
 {
     let wide = width(chunk);
@@ -331,10 +362,11 @@ fn write_word(image: &mut [u8], start_word: usize, low: u8, high: u8)
 }
 
 // Writes words while the position is before the end and bytes remain.
-fn write_words(image: &mut [u8], pos: Pos, end: Pos, bytes: &[u8]) -> Writing
+fn write_words(image: &mut [u8], pos: Pos, end: Pos, bytes: &[u8]) -> WordsWritten
     requires { ⌜ end < endMost ⌝ }
-    ensures said { λ r. ⌜ saidWriting r ≡ wrote (now (image .entry)) 0 pos end (words (now (bytes .entry))) .said ⌝ }
-    ensures lent { λ _. ⌜ now (image .exit) ≡ wrote (now (image .entry)) 0 pos end (words (now (bytes .entry))) .image ⌝ }
+    ensures said { λ r. ⌜ saidWriting (r .answer) ≡ writeIn (length (now (image .entry))) pos end (length (now (bytes .entry))) ⌝ }
+    ensures stands { λ r. ⌜ (r .range .«byte_pos» ≡ pos + 2 * wordsWritten (length (now (image .entry))) pos end (length (now (bytes .entry)))) × (r .range .end ≡ end) ⌝ }
+    ensures lent { λ _. ⌜ now (image .exit) ≡ wordsLaid (now (image .entry)) pos (wordsWritten (length (now (image .entry))) pos end (length (now (bytes .entry)))) (now (bytes .entry)) ⌝ }
 {
     let mut at = pos;
     let mut n = 0;
@@ -345,8 +377,18 @@ fn write_words(image: &mut [u8], pos: Pos, end: Pos, bytes: &[u8]) -> Writing
             at += 2;
             n += 2;
         } else {
-            return Writing::Stopped(Range { byte_pos: at, end });
+            return write_done(Writing::No(Refusal::NotWritable), at, end);
         }
     }
-    Writing::Written(n as Pos, Range { byte_pos: at, end })
+    write_done(Writing::Written(n as Pos), at, end)
+}
+
+// A write's answer, and where it stands after that.
+fn write_done(answer: Writing, byte_pos: Pos, end: Pos) -> WordsWritten
+    ensures { λ r. ⌜ r ≡ record { answer = answer; range = record { «byte_pos» = «byte_pos»; end = end } } ⌝ }
+{
+    WordsWritten {
+        answer,
+        range: Range { byte_pos, end },
+    }
 }

@@ -1,34 +1,22 @@
 -- Laws of what is told: what says the same is told the same, so an export's proof shows only that its values are the answer's.
-use Prim.Native.Nat.{ℕ}
+use Prim.Native.Nat.{ℕ, _≤_, _<_}
 use mathlib.Core.Path.{_≡_, refl, sym, ap, _∙_}
 use lib.ListN.{length}
 use mathlib.Core.Bool.{Bool, true, false}
-use mathlib.Core.List.{List, [], _∷_}
-use types.Run.{OneOf, miss}
+use mathlib.Core.List.{List, []}
+use borrow.Author.Tests.{lt-ltb, le-ltb}
+use types.Run.{OneOf}
 use denote.Enum.Declared.{tagOf}
-use Rattle.refusal.specs.Said.{Said, absent, numberOf, valuesOf, saidOf, pick}
+use Rattle.refusal.specs.Said.{Said, absent, refuses, saidOf, pick}
 use Rattle.refusal.specs.declared.Refusal.{Refusal}
 use Rattle.refusal.proofs.Refusal.{the-type}
-use Rattle.refusal.specs.declared.Refusal.the-variants.{
-  Address,
-  Overrun,
-  NoCategory,
-  StringTooLong,
-  Decode,
-  Capacity,
-  NotWritable,
-  TooLong,
-  NoPort,
-  BadPort,
-  Sum,
-  BadFrame,
-  NoRoom,
-  BadArgument,
-}
-use Rattle.sii.specs.General.{bit}
+use Rattle.refusal.proofs.Unique.{others, no-values}
 use Rattle.created_frame.specs.declared.Builder.{Builder}
+use Rattle.pdu.specs.Pdu.{frameHeaderBytes}
+use Rattle.pdu.specs.Answers.{headerSaid}
+use Rattle.wire.specs.Bytes.{bit}
 use Rattle.wire.proofs.Laws.{laid-none}
-use Rattle.export.specs.Told.{codeOf, rowOver, stateOver, bytesOver}
+use Rattle.export.specs.Told.{codeOf, rowOver, stateOver, bytesOver, headerTold}
 
 -- what says the same is told the same
 pub told : (s t : Said) (r : ℕ) (before after : List ℕ) → s ≡ t → (r ≡ codeOf s) × (after ≡ rowOver before s)
@@ -50,6 +38,15 @@ pub told-bytes : (s t : Said) (r : ℕ) (xs ys before after : List ℕ) → s �
     → (r ≡ codeOf t) × (after ≡ bytesOver before t ys)
 told-bytes s t r xs ys before after e f h = (h .0 ∙ ap codeOf e, rw (← e, ← f) (h .1))
 
+-- a frame's header where there is no room for it, and where there is
+pub header-short : (used room : ℕ) → room < frameHeaderBytes → refuses 14 [] ≡ headerTold used room
+unfolding headerTold
+header-short used room h = rw (lt-ltb room frameHeaderBytes h)
+
+pub header-room : (used room : ℕ) → frameHeaderBytes ≤ room → headerSaid used ≡ headerTold used room
+unfolding headerTold
+header-room used room h = rw (le-ltb room frameHeaderBytes h)
+
 -- absent: the row stays
 pub told-absent : (t : Said) (row : List ℕ) → absent ≡ t → (255 ≡ codeOf t) × (row ≡ rowOver row t)
 unfolding rowOver
@@ -62,28 +59,7 @@ bit-pick false = refl
 
 -- ---- a refusal
 
--- the places of all but the string that is too long
-abbrev pub others : List ℕ
-others = 0 ∷ 1 ∷ 2 ∷ 4 ∷ 5 ∷ 6 ∷ 7 ∷ 8 ∷ 9 ∷ 10 ∷ 11 ∷ 12 ∷ 13 ∷ []
-
--- .. which have no values
-no-values : (x : Refusal) → OneOf others (tagOf the-type x) → valuesOf x ≡ []
-no-values Address k = refl
-no-values Overrun k = refl
-no-values NoCategory k = refl
-no-values (StringTooLong r s) k = absurd (miss others 3 tt k)
-no-values Decode k = refl
-no-values Capacity k = refl
-no-values NotWritable k = refl
-no-values TooLong k = refl
-no-values NoPort k = refl
-no-values BadPort k = refl
-no-values Sum k = refl
-no-values BadFrame k = refl
-no-values NoRoom k = refl
-no-values BadArgument k = refl
-
--- .. so the row stays
+-- one that is not the string that is too long has no values, so the row stays
 pub row-stays : (x : Refusal) → OneOf others (tagOf the-type x) → (row : List ℕ) → row ≡ rowOver row (saidOf x)
 unfolding rowOver
 row-stays x k row = rw (no-values x k) (sym (laid-none row 0))

@@ -11,10 +11,11 @@ use Rattle.refusal.specs.Said.{pick}
 use Rattle.wire.specs.Bytes.{le16, laid}
 use Rattle.pdu.specs.declared.PduFields.{PduFields}
 use Rattle.pdu.specs.Pdu.{pdusMost}
+use Rattle.pdu.specs.Answers.{pduValues}
 use Rattle.pdu.specs.Read.{Places, bad, good, headed, placesAt, frameOf, seenAt, seenAll, readOf, pdusOf}
 use Rattle.pdu.proofs.Laws.{Few, few-places}
 use Rattle.frame_reader.specs.Answers.{unused, padded}
-use Rattle.export.specs.Told.{pduValues, pdusOver}
+use Rattle.export.specs.Told.{pdusOver}
 use Rattle.export.proofs.Flat.{laid-on}
 
 few-seen : (s : List ℕ) (R : Places) → Few R 2047 → length (pdusOf (seenAll s R)) ≤ pdusMost

@@ -10,12 +10,13 @@ use lib.Dec.{eqb, leb}
 use Rattle.refusal.specs.Said.{Said, pick}
 use Rattle.wire.specs.Bytes.{laid}
 use Rattle.created_frame.specs.declared.Builder.{Builder}
+use Rattle.created_frame.specs.Answers.{stateValues}
 use Rattle.created_frame.specs.Frame.{fresh, taken, restBuilder, restNext, afterRest}
 use Rattle.spread.specs.Answers.{firstOf}
 use Rattle.spread.specs.Row.{areasMost, addressEnd, zeroed, Run, stopped, rowFrom, lawful, roomIn, padded, Outcome, done, no, spreadOf}
 use Rattle.spread.proofs.Laws.{law}
 use Rattle.export.proofs.Flat.{laid-on}
-use Rattle.export.specs.Told.{stateValues, runOver}
+use Rattle.export.specs.Told.{runOver}
 
 -- each area that is taken has one state
 states-few : (size command address n : ℕ) (area : List ℕ) (b : Builder) (index o : ℕ) (row bytes : List ℕ)

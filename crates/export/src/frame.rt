@@ -1,12 +1,9 @@
 // The frame builder, the frame header and the frame reader. A builder's state goes in as numbers and comes back in the row.
 use crate::row::ABSENT;
 use crate::row::GIVES;
-use crate::row::flag;
 use crate::row::given;
 use crate::row::put;
 use crate::row::refused;
-use crate::row::wide;
-use crate::row::wide8;
 use created_frame::Builder;
 use created_frame::CanPush;
 use created_frame::Opened;
@@ -15,14 +12,19 @@ use created_frame::Push;
 use created_frame::Pushed;
 use created_frame::Rest;
 use created_frame::RestPush;
+use created_frame::handle_row;
+use created_frame::state_row;
+use pdu::FRAME_HEADER_BYTES;
 use pdu::HeaderAnswer;
+use refusal::Refusal;
+use wire::flag;
 ghost use mathlib.Core.Path.{_≡_};
-ghost use mathlib.Core.List.{[], _∷_};
+ghost use mathlib.Core.List.{[], _∷_, _++_};
 ghost use lib.ListN.{length};
 ghost use Rattle.pdu.specs.Answers.{saidHeader, headerSaid, headerLeft};
 ghost use Rattle.created_frame.specs.Frame.{opened, afterOpen, pushed, pushedBuilder, pushedNext, afterPush, restPushed, restBuilder, restNext, afterRest, canPush};
-ghost use Rattle.created_frame.specs.Answers.{handleValues, saidOpened, saidPushed, saidRest};
-ghost use Rattle.export.specs.Told.{codeOf, rowOver, stateOf, stateOver, bytesOver};
+ghost use Rattle.created_frame.specs.Answers.{handleValues, stateValues, saidOpened, saidPushed, saidRest};
+ghost use Rattle.export.specs.Told.{codeOf, rowOver, stateOf, stateOver, bytesOver, headerTold};
 
 // Zeroes the area; the row takes the state of an empty one: used, count, last.
 #[no_mangle]
@@ -41,7 +43,7 @@ fn of_opened(out: &mut [u64], r: Opened) -> u8
 {
     match r {
         Opened::Ready(b) => {
-            let xs = [b.used as u64, b.count as u64, b.last as u64];
+            let xs = state_row(b);
             given(out, &xs)
         }
         Opened::No(x) => refused(out, x),
@@ -98,25 +100,19 @@ fn of_push(out: &mut [u64], r: Push) -> u8
 
 // The state and the next index.
 fn kept_row(b: Builder, next: u8) -> [u64; 4]
-    ensures { λ r. ⌜ r ≡ b .used ∷ b .count ∷ b .last ∷ next ∷ [] ⌝ }
+    ensures { λ r. ⌜ r ≡ stateValues b ++ next ∷ [] ⌝ }
 {
-    [wide(b.used), wide(b.count), wide(b.last), wide8(next)]
+    let s = state_row(b);
+    [s[0], s[1], s[2], next as u64]
 }
 
 // .. and the PDU behind them.
 fn pushed_row(b: Builder, next: u8, h: PduResponseHandle) -> [u64; 8]
-    ensures { λ r. ⌜ r ≡ b .used ∷ b .count ∷ b .last ∷ next ∷ handleValues h ⌝ }
+    ensures { λ r. ⌜ r ≡ stateValues b ++ next ∷ handleValues h ⌝ }
 {
-    [
-        wide(b.used),
-        wide(b.count),
-        wide(b.last),
-        wide8(next),
-        wide(h.start),
-        wide(h.size),
-        wide8(h.index),
-        wide8(h.command),
-    ]
+    let s = state_row(b);
+    let t = handle_row(h);
+    [s[0], s[1], s[2], next as u64, t[0], t[1], t[2], t[3]]
 }
 
 // Pushes a PDU of the first of these bytes, as many as have room. The row takes the state after it and the next index,
@@ -173,18 +169,20 @@ fn of_rest(out: &mut [u64], r: RestPush) -> u8
 
 // The state and the next index, how many bytes were taken, and the PDU.
 fn taken_row(b: Builder, next: u8, taken: usize, h: PduResponseHandle) -> [u64; 9]
-    ensures { λ r. ⌜ r ≡ b .used ∷ b .count ∷ b .last ∷ next ∷ taken ∷ handleValues h ⌝ }
+    ensures { λ r. ⌜ r ≡ stateValues b ++ next ∷ taken ∷ handleValues h ⌝ }
 {
+    let s = state_row(b);
+    let t = handle_row(h);
     [
-        wide(b.used),
-        wide(b.count),
-        wide(b.last),
-        wide8(next),
-        wide(taken),
-        wide(h.start),
-        wide(h.size),
-        wide8(h.index),
-        wide8(h.command),
+        s[0],
+        s[1],
+        s[2],
+        next as u64,
+        taken as u64,
+        t[0],
+        t[1],
+        t[2],
+        t[3],
     ]
 }
 
@@ -211,9 +209,20 @@ pub extern "C" fn morel_can_push_pdu_payload(
     }
 }
 
-// The two bytes of the header of a frame whose PDUs take this many bytes, at the front of `bytes`; a refusal leaves them as they are.
+// The two bytes of the header of a frame whose PDUs take this many bytes, at the front of `bytes`; fewer than two are refused. A refusal leaves them.
 #[no_mangle]
 pub extern "C" fn morel_frame_header(used: usize, bytes: &mut [u8]) -> u8
+    ensures code { λ r. ⌜ r ≡ codeOf (headerTold used (length (now (bytes .entry)))) ⌝ }
+    ensures lent { λ _. ⌜ now (bytes .exit) ≡ bytesOver (now (bytes .entry)) (headerTold used (length (now (bytes .entry)))) (headerLeft used) ⌝ }
+{
+    if bytes.len() < FRAME_HEADER_BYTES {
+        return refusal::number(Refusal::BadArgument);
+    }
+    put_header(used, bytes)
+}
+
+// The header over the front of the bytes, as much of it as they have room for.
+fn put_header(used: usize, bytes: &mut [u8]) -> u8
     ensures code { λ r. ⌜ r ≡ codeOf (headerSaid used) ⌝ }
     ensures lent { λ _. ⌜ now (bytes .exit) ≡ bytesOver (now (bytes .entry)) (headerSaid used) (headerLeft used) ⌝ }
 {

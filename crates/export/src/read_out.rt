@@ -1,27 +1,27 @@
 // The read-outs of an EEPROM image: the fixed area, categories and General. The values of each are those of its answer on paper.
 use crate::row::ABSENT;
 use crate::row::GIVES;
-use crate::row::flag;
 use crate::row::given;
 use crate::row::refused;
-use crate::row::wide8;
-use crate::row::wide16;
 use category::Found;
+use category::InsideAnswer;
 use eeprom::Chunk;
 use sii::AliasAnswer;
 use sii::AliasSet;
-use sii::DefaultMailbox;
 use sii::GeneralAnswer;
 use sii::IdentityAnswer;
 use sii::MailboxAnswer;
-use sii::SiiGeneral;
 use sii::SizeAnswer;
-use sii::SubDeviceIdentity;
+use sii::general_row;
+use sii::identity_row;
+use sii::mailbox_row;
+use wire::flag;
 ghost use mathlib.Core.Path.{_≡_};
 ghost use Rattle.crc.specs.Crc.{crcOf};
 ghost use Rattle.category.specs.Category.{categorySaid};
-ghost use Rattle.sii.specs.Fixed.{aliasSaid, setSaid, setImage, identitySaid, identityValues, mailboxSaid, mailboxValues, sizeSaid};
-ghost use Rattle.sii.specs.General.{generalSaid, generalValues};
+ghost use Rattle.category.specs.Inside.{insideSaid};
+ghost use Rattle.sii.specs.Fixed.{aliasSaid, setSaid, setImage, identitySaid, mailboxSaid, sizeSaid};
+ghost use Rattle.sii.specs.General.{generalSaid};
 ghost use Rattle.export.specs.Told.{codeOf, rowOver};
 
 // The CRC-8 of the bytes.
@@ -74,17 +74,6 @@ pub extern "C" fn morel_identity(image: &[u8], out: &mut [u64]) -> u8
     }
 }
 
-fn identity_row(d: SubDeviceIdentity) -> [u64; 4]
-    ensures { λ r. ⌜ r ≡ identityValues d ⌝ }
-{
-    [
-        d.vendor_id as u64,
-        d.product_id as u64,
-        d.revision as u64,
-        d.serial as u64,
-    ]
-}
-
 // The standard mailbox.
 #[no_mangle]
 pub extern "C" fn morel_mailbox_config(image: &[u8], out: &mut [u64]) -> u8
@@ -98,18 +87,6 @@ pub extern "C" fn morel_mailbox_config(image: &[u8], out: &mut [u64]) -> u8
         }
         MailboxAnswer::No(x) => refused(out, x),
     }
-}
-
-fn mailbox_row(m: DefaultMailbox) -> [u64; 5]
-    ensures { λ r. ⌜ r ≡ mailboxValues m ⌝ }
-{
-    [
-        m.subdevice_receive_offset as u64,
-        m.subdevice_receive_size as u64,
-        m.subdevice_send_offset as u64,
-        m.subdevice_send_size as u64,
-        m.supported_protocols as u64,
-    ]
 }
 
 // The size of the EEPROM in bytes.
@@ -143,6 +120,21 @@ pub extern "C" fn morel_category(image: &[u8], number: u16, out: &mut [u64]) -> 
     }
 }
 
+// Whether all that the search for the category of this number looks at, and the category that it finds, lie in the image: 1 or 0.
+#[no_mangle]
+pub extern "C" fn morel_category_inside(image: &[u8], number: u16, out: &mut [u64]) -> u8
+    ensures code { λ r. ⌜ r ≡ codeOf (insideSaid (now (image .entry)) number) ⌝ }
+    ensures lent { λ _. ⌜ now (out .exit) ≡ rowOver (now (out .entry)) (insideSaid (now (image .entry)) number) ⌝ }
+{
+    match category::category_inside(image, Chunk::Eight, number) {
+        InsideAnswer::Inside(t) => {
+            let xs = [flag(t)];
+            given(out, &xs)
+        }
+        InsideAnswer::No(x) => refused(out, x),
+    }
+}
+
 // The category General; not found is refusal 3.
 #[no_mangle]
 pub extern "C" fn morel_general(image: &[u8], out: &mut [u64]) -> u8
@@ -156,25 +148,4 @@ pub extern "C" fn morel_general(image: &[u8], out: &mut [u64]) -> u8
         }
         GeneralAnswer::No(x) => refused(out, x),
     }
-}
-
-fn general_row(g: SiiGeneral) -> [u64; 14]
-    ensures { λ r. ⌜ r ≡ generalValues g ⌝ }
-{
-    [
-        wide8(g.group_string_idx),
-        wide8(g.image_string_idx),
-        wide8(g.order_string_idx),
-        wide8(g.name_string_idx),
-        wide8(g.coe_details),
-        flag(g.foe_enabled),
-        flag(g.eoe_enabled),
-        wide8(g.flags),
-        wide16(g.ebus_current),
-        wide8(g.port0),
-        wide8(g.port1),
-        wide8(g.port2),
-        wide8(g.port3),
-        wide16(g.physical_memory_addr),
-    ]
 }

@@ -1,24 +1,24 @@
 // The frame reader: the row takes how many PDUs the frame has, and nine numbers of each.
 use crate::row::GIVES;
-use crate::row::flag;
 use crate::row::put;
-use crate::row::wide;
-use crate::row::wide8;
-use crate::row::wide16;
-use crate::row::wide32;
 use frame_reader::FrameAnswer;
 use frame_reader::read_frame;
+use pdu::PDUS_MOST;
 use pdu::PduFields;
-use wire::lesser;
+use pdu::pdu_row;
 ghost use mathlib.Core.Path.{_≡_};
 ghost use mathlib.Core.List.{flatMap};
 ghost use Prim.Native.Nat.{_+_, _*_, _≤_};
 ghost use lib.ListN.{length, take};
 ghost use Rattle.wire.specs.Bytes.{laid};
 ghost use Rattle.pdu.specs.Pdu.{pdusMost};
+ghost use Rattle.pdu.specs.Answers.{pduValues};
 ghost use Rattle.pdu.specs.Read.{readOf, pdusOf};
 ghost use Rattle.frame_reader.specs.Answers.{saidFrame, readSaid};
-ghost use Rattle.export.specs.Told.{codeOf, pduValues, pdusOver};
+ghost use Rattle.export.specs.Told.{codeOf, pdusOver};
+
+// How many numbers a PDU takes of the row.
+const PDU_NUMBERS: usize = 9;
 
 // The PDUs of a frame: how many, and of each its command, index, address, length, circulated, more-follows, IRQ, payload's place and working counter.
 // Where the bytes are no frame it is refusal 12, and no PDUs.
@@ -31,7 +31,7 @@ pub extern "C" fn morel_read_frame(frame: &[u8], out: &mut [u64]) -> u8
     let n = r.count;
     let pdus = r.pdus;
     let answer = r.answer;
-    let head = [wide(n)];
+    let head = [n as u64];
     put(out, 0, &head);
     put_pdus(out, 1, pdus, n);
     code_of(answer)
@@ -46,24 +46,8 @@ fn code_of(answer: FrameAnswer) -> u8
     }
 }
 
-fn pdu_row(p: PduFields) -> [u64; 9]
-    ensures { λ r. ⌜ r ≡ pduValues p ⌝ }
-{
-    [
-        wide8(p.command),
-        wide8(p.index),
-        wide32(p.address),
-        wide16(p.len),
-        flag(p.circulated),
-        flag(p.more_follows),
-        wide16(p.irq),
-        wide(p.place),
-        wide16(p.counter),
-    ]
-}
-
 // The numbers of the first n PDUs, over the row from at on.
-fn put_pdus(out: &mut [u64], at: usize, pdus: [PduFields; 170], n: usize)
+fn put_pdus(out: &mut [u64], at: usize, pdus: [PduFields; PDUS_MOST], n: usize)
     requires { ⌜ (at ≤ 1) × (n ≤ pdusMost) × (n ≤ length pdus) ⌝ }
     ensures { λ _. ⌜ now (out .exit) ≡ laid (now (out .entry)) at (flatMap pduValues (take n pdus)) ⌝ }
 {
@@ -73,6 +57,6 @@ fn put_pdus(out: &mut [u64], at: usize, pdus: [PduFields; 170], n: usize)
         let xs = pdu_row(pdus[i]);
         put(out, p, &xs);
         i += 1;
-        p += 9;
+        p += PDU_NUMBERS;
     }
 }

@@ -6,7 +6,6 @@ ghost use Prim.Native.Nat.{_+_, _≤_};
 ghost use lib.ListN.{length, take};
 ghost use Rattle.refusal.specs.Said.{gives, saidOf};
 ghost use Rattle.wire.specs.Bytes.{overlay, laid};
-ghost use Rattle.sii.specs.General.{bit};
 ghost use Rattle.export.specs.Told.{codeOf, rowOver};
 
 // The code of an answer that gives values.
@@ -59,36 +58,4 @@ pub(crate) fn refused(row: &mut [u64], x: Refusal) -> u8
         }
         _ => refusal::number(x),
     }
-}
-
-// A field as a number of a row.
-pub(crate) fn wide8(x: u8) -> u64
-    ensures { λ r. ⌜ r ≡ x ⌝ }
-{
-    x as u64
-}
-
-pub(crate) fn wide16(x: u16) -> u64
-    ensures { λ r. ⌜ r ≡ x ⌝ }
-{
-    x as u64
-}
-
-pub(crate) fn wide32(x: u32) -> u64
-    ensures { λ r. ⌜ r ≡ x ⌝ }
-{
-    x as u64
-}
-
-pub(crate) fn wide(x: usize) -> u64
-    ensures { λ r. ⌜ r ≡ x ⌝ }
-{
-    x as u64
-}
-
-// A test as a number of a row: 1 where it holds.
-pub(crate) fn flag(b: bool) -> u64
-    ensures { λ r. ⌜ r ≡ bit b ⌝ }
-{
-    if b { 1 } else { 0 }
 }

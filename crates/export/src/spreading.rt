@@ -1,9 +1,8 @@
 // Spreading a process image over a row of areas. The row takes the next index, how many areas have a state, and three numbers of each.
 use crate::row::GIVES;
 use crate::row::put;
-use crate::row::wide;
-use crate::row::wide8;
 use created_frame::Builder;
+use created_frame::state_row;
 use spread::SpreadAnswer;
 use spread::Spreading;
 use spread::spread;
@@ -12,9 +11,13 @@ ghost use mathlib.Core.List.{_∷_, flatMap};
 ghost use Prim.Native.Nat.{_+_, _*_, _≤_};
 ghost use lib.ListN.{length, take};
 ghost use Rattle.wire.specs.Bytes.{laid};
+ghost use Rattle.created_frame.specs.Answers.{stateValues};
 ghost use Rattle.spread.specs.Answers.{saidLast, firstOf};
 ghost use Rattle.spread.specs.Row.{areasMost, spreadOf};
-ghost use Rattle.export.specs.Told.{codeOf, stateOf, stateValues, runOver};
+ghost use Rattle.export.specs.Told.{codeOf, stateOf, runOver};
+
+// How many numbers a state takes of the row.
+const STATE_NUMBERS: usize = 3;
 
 // The image goes over the areas of the row, each of `size` bytes, as logical PDUs of this command from this address on.
 // The first area has the state (used, count, last); the answer's number is that of the last area that has a PDU of the image, 0 for no image.
@@ -67,7 +70,7 @@ fn put_run(out: &mut [u64], next: u8, n: usize, states: [Builder; 32])
     requires { ⌜ (n ≤ areasMost) × (n ≤ length states) ⌝ }
     ensures { λ _. ⌜ now (out .exit) ≡ laid (now (out .entry)) 0 (next ∷ n ∷ flatMap stateValues (take n states)) ⌝ }
 {
-    let head = [wide8(next), wide(n)];
+    let head = [next as u64, n as u64];
     put(out, 0, &head);
     put_states(out, 2, states, n);
 }
@@ -83,12 +86,6 @@ fn put_states(out: &mut [u64], at: usize, states: [Builder; 32], n: usize)
         let xs = state_row(states[i]);
         put(out, p, &xs);
         i += 1;
-        p += 3;
+        p += STATE_NUMBERS;
     }
-}
-
-fn state_row(b: Builder) -> [u64; 3]
-    ensures { λ r. ⌜ r ≡ stateValues b ⌝ }
-{
-    [wide(b.used), wide(b.count), wide(b.last)]
 }

@@ -51,7 +51,7 @@ pub none-refused : (s : List ℕ) → Bytes s → ((ps : List Pdu) → WellForme
 unfolding readSaid
 none-refused s bytes none = ap readSaid (broken-refused s bytes none)
 
--- document 01's frame from the bench
+-- the frame of the bench (RULES, bench)
 pub bench-accepted : (says benchFrame ≡ gives []) × (pdusOf (readOf benchFrame) ≡ shownAll 2 benchPdus)
 unfolding readSaid
 bench-accepted = (ap readSaid bench-read, ap pdusOf bench-read)

@@ -11,7 +11,6 @@ use Rattle.pdu.specs.declared.PduFields.{PduFields}
 use Rattle.pdu.specs.Read.{Places, bad, good, before, seenAt, frameOf, Reading, seenAll, readOf, pdusOf}
 use Rattle.pdu.proofs.Laws.{Few}
 use Rattle.frame_reader.specs.declared.FrameRead.{FrameRead}
-use Rattle.frame_reader.specs.declared.FrameAnswer.the-variants.{Frame}
 use Rattle.frame_reader.specs.declared.Walked.{Walked}
 use Rattle.frame_reader.specs.declared.Walked.the-variants.{Good, Bad}
 use Rattle.frame_reader.specs.Answers.{saidFrame, readSaid, noPdu, unused, padded}
@@ -74,18 +73,18 @@ stored-split (p ∷ l) k out h =
 
 module _ (s : List ℕ) (R : Places) (w : Walked) (said : w ≡ walkedOf 0 R) where
   pub whole : (m : ℕ) (out after : List ℕ) (b : ℕ) → length out ≡ 170 → Few R b → b ≤ 2047 → w ≡ Good m → after ≡ placed 0 R out
-      → (m ≤ 170) × (record { answer = Frame; count = m; pdus = padded (map (seenAt s) (take m after)) } ≡ listing s R)
+      → (m ≤ 170) × (listing s (good (take m after)) ≡ listing s R)
   unfolding walkedOf placed listing Few
   whole m out after b len few le e r = go R few said r
     where
       go : (R : Places) → Few R b → w ≡ walkedOf 0 R → after ≡ placed 0 R out
-          → (m ≤ 170) × (record { answer = Frame; count = m; pdus = padded (map (seenAt s) (take m after)) } ≡ listing s R)
+          → (m ≤ 170) × (listing s (good (take m after)) ≡ listing s R)
       go bad f q r′ = let z : _≡_ {A = ℕ} 0 1 = cc in absurd (omega arith)
       go (good l) f q r′ =
           let e0 : m ≡ 0 + length l = cc in
           let em : m ≡ length l = omega arith in
           let lm : take m after ≡ l = rw (r′, stored-split l 0 out (omega arith)) (take-at l (drop (0 + length l) out) m (sym em)) in
-          (omega arith, rw (lm, em) refl)
+          (omega arith, rw lm refl)
 
   pub whole-bad : w ≡ Bad → listing [] bad ≡ listing s R
   unfolding walkedOf listing

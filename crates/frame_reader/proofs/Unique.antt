@@ -22,7 +22,7 @@ unfolding frameFrom
 frame-back Frame = refl
 frame-back (No x) = ap No (back x)
 
-frame-unique : (a b : FrameAnswer) (s : Said) → saidFrame a ≡ s → saidFrame b ≡ s → a ≡ b
+pub frame-unique : (a b : FrameAnswer) (s : Said) → saidFrame a ≡ s → saidFrame b ≡ s → a ≡ b
 frame-unique = unique saidFrame frameFrom frame-back
 
 -- any two results that `read_frame` may give are equal

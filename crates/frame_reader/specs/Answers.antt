@@ -1,4 +1,4 @@
--- What the reader answers of what is read (document 01, 'Frames'). Definitions only.
+-- What the reader answers of what is read (RULES, reader). Definitions only.
 use Prim.Native.Nat.{ℕ, _-_}
 use mathlib.Core.Bool.{false}
 use mathlib.Core.List.{List, [], _++_}

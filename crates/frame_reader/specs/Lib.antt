@@ -1,2 +1,3 @@
 pub mod Answers
 pub mod Walk
+pub mod Reads

@@ -1,6 +1,18 @@
-// The frame reader (document 01, 'Frames'): the PDUs of any bytes that are a frame, else refusal 12. The Rust has none.
+// The frame reader (RULES, reader): the PDUs of any bytes that are a frame, else refusal 12. The Rust has none.
 // Two steps, header and body, each calling the other on what is left, find where the PDUs start; a loop then reads their fields.
+use pdu::ADDRESS_AT;
+use pdu::CIRCULATED_BIT;
+use pdu::FLAGS_AT;
+use pdu::FRAME_HEADER_BYTES;
+use pdu::HEADER_BYTES;
+use pdu::INDEX_AT;
+use pdu::IRQ_AT;
+use pdu::LENGTH_PAST;
+use pdu::MORE_BIT;
+use pdu::PDU_OVERHEAD_BYTES;
+use pdu::PDUS_MOST;
 use pdu::PduFields;
+use pdu::TYPE_BIT;
 use pdu::ends_rightly;
 use refusal::Refusal;
 use wire::byte_at;
@@ -8,10 +20,11 @@ use wire::long_at;
 use wire::word_at;
 ghost use mathlib.Core.Path.{_≡_};
 ghost use Prim.Native.Nat.{ℕ, _+_, _-_, _*_, _≤_, _<_};
-ghost use mathlib.Core.List.{[], map};
+ghost use mathlib.Core.List.{[]};
 ghost use lib.ListN.{length, take};
-ghost use Rattle.pdu.specs.Pdu.{pdusMost};
-ghost use Rattle.pdu.specs.Read.{bad, bodyAt, placesAt, seenAt, readOf, pdusOf};
+ghost use Rattle.wire.specs.Bytes.{wordPast};
+ghost use Rattle.pdu.specs.Pdu.{areaMost, headerBytes, pduOverhead, frameHeaderBytes, pdusMost};
+ghost use Rattle.pdu.specs.Read.{bad, good, bodyAt, placesAt, seenAt, readOf, pdusOf};
 ghost use Rattle.frame_reader.specs.Answers.{saidFrame, readSaid, noPdu, padded};
 ghost use Rattle.frame_reader.specs.Walk.{walkedOf, placed, listing};
 
@@ -27,7 +40,7 @@ pub enum FrameAnswer {
 pub struct FrameRead {
     pub answer: FrameAnswer,
     pub count: usize,
-    pub pdus: [PduFields; 170],
+    pub pdus: [PduFields; PDUS_MOST],
 }
 
 // What the cycle finds: the number of PDUs, or no frame.
@@ -40,22 +53,28 @@ enum Walked {
 pub fn read_frame(s: &[u8]) -> FrameRead
     ensures { λ r. ⌜ (saidFrame (r .answer) ≡ readSaid (readOf (now (s .entry)))) × (r .count ≡ length (pdusOf (readOf (now (s .entry))))) × (r .pdus ≡ padded (pdusOf (readOf (now (s .entry))))) ⌝ }
 {
-    if s.len() < 2 {
+    if s.len() < FRAME_HEADER_BYTES {
         return refused();
     }
     let w = word_at(s, 0);
-    let n = (w % 2048) as usize;
-    if w / 4096 != 1 {
+    let n = (w % LENGTH_PAST) as usize;
+    if w / TYPE_BIT != 1 {
         return refused();
     }
-    if s.len() - 2 < n {
+    if s.len() - FRAME_HEADER_BYTES < n {
         return refused();
     }
     if n == 0 {
         return no_pdus(FrameAnswer::Frame);
     }
-    let mut places = [0u16; 170];
-    let found = header(s, 2, n + 2, 0, &mut places);
+    let mut places = [0u16; PDUS_MOST];
+    let found = header(
+        s,
+        FRAME_HEADER_BYTES,
+        n + FRAME_HEADER_BYTES,
+        0,
+        &mut places,
+    );
     match found {
         Walked::Bad => refused(),
         Walked::Good(m) => listed(s, &places, m),
@@ -64,22 +83,22 @@ pub fn read_frame(s: &[u8]) -> FrameRead
 
 // The PDUs from `at` to `end`, the k-th first: each one's start goes into `out`, unless there is a fault behind it.
 fn header(s: &[u8], at: usize, end: usize, k: usize, out: &mut [u16]) -> Walked
-    requires { ⌜ (at ≤ end) × (end ≤ 2049) × (12 * k + 2 ≤ at) × (length (now out) ≡ pdusMost) ⌝ }
+    requires { ⌜ (at ≤ end) × (end ≤ areaMost + frameHeaderBytes) × (pduOverhead * k + frameHeaderBytes ≤ at) × (length (now out) ≡ pdusMost) ⌝ }
     ensures { λ r. ⌜ ((f : ℕ) → end - at ≤ f → (r ≡ walkedOf k (placesAt f (now (s .entry)) at end)) × (now (out .exit) ≡ placed k (placesAt f (now (s .entry)) at end) (now (out .entry)))) ⌝ }
 {
-    if end - at < 12 {
+    if end - at < PDU_OVERHEAD_BYTES {
         return Walked::Bad;
     }
-    let flags = word_at(s, at + 6);
+    let flags = word_at(s, at + FLAGS_AT);
     body(s, at, end, k, flags, out)
 }
 
 // .. where the PDU at `from` has these flags.
 fn body(s: &[u8], from: usize, end: usize, k: usize, flags: u16, out: &mut [u16]) -> Walked
-    requires { ⌜ (from + 12 ≤ end) × (end ≤ 2049) × (12 * k + 2 ≤ from) × (length (now out) ≡ pdusMost) ⌝ }
-    ensures { λ r. ⌜ ((f : ℕ) → end - (from + 10) ≤ f → (r ≡ walkedOf k (bodyAt (λ next. placesAt f (now (s .entry)) next end) from end flags)) × (now (out .exit) ≡ placed k (bodyAt (λ next. placesAt f (now (s .entry)) next end) from end flags) (now (out .entry)))) ⌝ }
+    requires { ⌜ (from + pduOverhead ≤ end) × (end ≤ areaMost + frameHeaderBytes) × (pduOverhead * k + frameHeaderBytes ≤ from) × (length (now out) ≡ pdusMost) ⌝ }
+    ensures { λ r. ⌜ ((f : ℕ) → end - (from + headerBytes) ≤ f → (r ≡ walkedOf k (bodyAt (λ next. placesAt f (now (s .entry)) next end) from end flags)) × (now (out .exit) ≡ placed k (bodyAt (λ next. placesAt f (now (s .entry)) next end) from end flags) (now (out .entry)))) ⌝ }
 {
-    let next = from + (12 + ((flags % 2048) as usize));
+    let next = from + (PDU_OVERHEAD_BYTES + ((flags % LENGTH_PAST) as usize));
     if ends_rightly(from, end, flags) {
         if next == end {
             out[k] = from as u16;
@@ -100,21 +119,21 @@ fn body(s: &[u8], from: usize, end: usize, k: usize, flags: u16, out: &mut [u16]
 
 // The fields of the PDU whose header starts at `at`.
 fn pdu_at(s: &[u8], at: usize) -> PduFields
-    requires { ⌜ at < 65536 ⌝ }
+    requires { ⌜ at < wordPast ⌝ }
     ensures { λ r. ⌜ r ≡ seenAt (now (s .entry)) at ⌝ }
 {
-    let flags = word_at(s, at + 6);
-    let n = flags % 2048;
+    let flags = word_at(s, at + FLAGS_AT);
+    let n = flags % LENGTH_PAST;
     PduFields {
         command: byte_at(s, at),
-        index: byte_at(s, at + 1),
-        address: long_at(s, at + 2),
+        index: byte_at(s, at + INDEX_AT),
+        address: long_at(s, at + ADDRESS_AT),
         len: n,
-        circulated: flags / 16384 % 2 == 1,
-        more_follows: 32768 <= flags,
-        irq: word_at(s, at + 8),
-        place: at + 10,
-        counter: word_at(s, at + (10 + (n as usize))),
+        circulated: flags / CIRCULATED_BIT % 2 == 1,
+        more_follows: MORE_BIT <= flags,
+        irq: word_at(s, at + IRQ_AT),
+        place: at + HEADER_BYTES,
+        counter: word_at(s, at + (HEADER_BYTES + (n as usize))),
     }
 }
 
@@ -143,7 +162,7 @@ fn no_pdus(answer: FrameAnswer) -> FrameRead
     FrameRead {
         answer,
         count: 0,
-        pdus: [p; 170],
+        pdus: [p; PDUS_MOST],
     }
 }
 
@@ -156,7 +175,7 @@ fn refused() -> FrameRead
 // The PDUs whose headers stand at the first n places.
 fn listed(s: &[u8], places: &[u16], n: usize) -> FrameRead
     requires { ⌜ (n ≤ pdusMost) × (n ≤ length (now places)) ⌝ }
-    ensures { λ r. ⌜ r ≡ record { answer = FrameAnswer.Frame; count = n; pdus = padded (map (seenAt (now (s .entry))) (take n (now (places .entry)))) } ⌝ }
+    ensures { λ r. ⌜ r ≡ listing (now (s .entry)) (good (take n (now (places .entry)))) ⌝ }
 {
     let mut l = no_pdus(FrameAnswer::Frame);
     let mut k = 0;

@@ -1,4 +1,4 @@
--- What each answer says, in document 01's numbers and values. Where the range stands is in the range.
+-- What each answer says, in numbers and values (RULES, refusals). Where the range stands is in the range.
 use mathlib.Core.List.{[], _∷_}
 use Rattle.refusal.specs.Said.{Said, gives, saidOf}
 use Rattle.held.specs.declared.Outcome.{Outcome}

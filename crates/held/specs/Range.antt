@@ -1,42 +1,42 @@
--- A range with its image inside it, over the rules of `eeprom`: document 01, 'The EEPROM range' and 'What must change shape'. Definitions only.
--- What the core says of a call ends in the range after it, as position and end. Here the answer is said alone, and the range is where it says.
+-- A range with its image inside it, over the rules of `eeprom`: RULES, range and forms. Definitions only.
+-- What the core says of a range made, a skip, a byte and a read ends in the range after it, as position and end: here the answer is said alone, and the range is where it says.
+-- Of an exact read and a write the core says the answer alone, and has the range beside it.
 use Prim.Native.Nat.{ℕ, _-_}
-use mathlib.Core.List.{List, []}
-use lib.Dec.{eqb}
+use mathlib.Core.List.{List}
 use lib.ListN.{length, take, getD}
 use denote.Ref.{RefT, now, at-last}
-use Rattle.refusal.specs.Said.{Said, gives, absent, refuses, pick}
-use Rattle.eeprom.specs.Range.{byteSaid, skipSaid, readSaid, readBuf, exactSaid, exactBuf, writeSaid, writeImage}
+use Rattle.refusal.specs.Said.{Said, gives, absent, refuses}
+use Rattle.eeprom.specs.Range.{byteSaid, skipSaid, readSaid, readBuf, exactSaid, exactPos, exactBuf, writeSaid, writePos, writeImage}
 use Rattle.held.specs.declared.EepromRange.{EepromRange}
 use Rattle.held.specs.declared.EepromRangeMut.{EepromRangeMut}
 
 -- ---- what the core says, taken apart
 
--- the one refusal whose values are lengths and no range: StringTooLong
-abbrev pub tooLong : ℕ
-tooLong = 4
-
 -- the answer alone
 unfoldable pub alone : Said → Said
 alone (gives l) = gives (take (length l - 2) l)
 alone absent = absent
-alone (refuses n l) = refuses n (pick (eqb n tooLong) l [])
+alone (refuses n l) = refuses n l
 
 -- the position after it; where it says none, the position stays
 unfoldable pub stands : ℕ → Said → ℕ
 stands pos (gives l) = getD l (length l - 2) pos
 stands pos absent = pos
-stands pos (refuses n l) = pick (eqb n tooLong) pos (getD l 0 pos)
+stands pos (refuses n l) = pos
 
--- the end of the range that it gives, else 0
+-- the end of the range that a refused `new` hands out: an odd one, so that every later call on it is 14
+abbrev pub closedEnd : ℕ
+closedEnd = 1
+
+-- the end of the range that it gives; else that one
 unfoldable pub ends : Said → ℕ
-ends (gives l) = getD l (length l - 1) 0
-ends absent = 0
-ends (refuses n l) = 0
+ends (gives l) = getD l (length l - 1) closedEnd
+ends absent = closedEnd
+ends (refuses n l) = closedEnd
 
 -- ---- the range
 
--- the range over this image that the core gives; where it refuses, the empty one at 0
+-- the range over this image that the core gives; where it refuses, a closed one at 0
 abbrev pub rangeOn : RefT (List ℕ) → Said → EepromRange
 rangeOn image s = record { image = image; «byte_pos» = stands 0 s; end = ends s }
 
@@ -74,6 +74,10 @@ readInto r buf = readBuf (now (r .image)) (r .«byte_pos») (r .end) buf
 abbrev pub exactOf : EepromRange → List ℕ → Said
 exactOf r buf = exactSaid (now (r .image)) (r .«byte_pos») (r .end) (length buf)
 
+-- the range after it: the same image and end, the position where the core stands
+abbrev pub afterExact : EepromRange → List ℕ → EepromRange
+afterExact r buf = movedTo r (exactPos (now (r .image)) (r .«byte_pos») (r .end) (length buf))
+
 -- what an exact read leaves in the buffer
 abbrev pub exactInto : EepromRange → List ℕ → List ℕ
 exactInto r buf = exactBuf (now (r .image)) (r .«byte_pos») (r .end) buf
@@ -84,11 +88,11 @@ exactInto r buf = exactBuf (now (r .image)) (r .«byte_pos») (r .end) buf
 abbrev pub writeOf : EepromRangeMut → List ℕ → Said
 writeOf r bytes = writeSaid (now (r .image)) (r .«byte_pos») (r .end) bytes
 
--- the range after a write: the same loan at the image that the core leaves, the position where it says
+-- the range after a write: the same loan at the image that the core leaves, the position where the core stands
 abbrev pub written : EepromRangeMut → List ℕ → EepromRangeMut
 written r bytes =
     record {
       image = at-last (r .image) (writeImage (now (r .image)) (r .«byte_pos») (r .end) bytes);
-      «byte_pos» = stands (r .«byte_pos») (writeOf r bytes);
+      «byte_pos» = writePos (now (r .image)) (r .«byte_pos») (r .end) bytes;
       end = r .end;
     }

@@ -1,5 +1,5 @@
 // The forms that lend, each thin over its by-value core: `Ports` changed in place, and a range that keeps its image inside it.
-// Document 01, 'Forms for each place', the last two lines, and 'What must change shape'. No call here decides anything: what it answers and leaves is the core's.
+// RULES, forms. No call here decides anything: what it answers and leaves is the core's.
 use eeprom::Chunk;
 use eeprom::Pos;
 use ports::Assigned;
@@ -14,9 +14,10 @@ use step::skip_step;
 use step::write_step;
 ghost use mathlib.Core.Path.{_≡_};
 ghost use Rattle.ports.specs.Ports.{timesSet};
-ghost use Rattle.ports.specs.Assigning.{assignedOf};
-ghost use Rattle.eeprom.specs.Range.{newSaid, byteSaid, writeSaid, writeImage};
-ghost use Rattle.held.specs.Range.{alone, stands, rangeOn, rangeMutOn, after, skipOf, byteOf, readOf, readInto, exactOf, exactInto, writeOf, written};
+ghost use Rattle.ports.specs.Answers.{saidPort};
+ghost use Rattle.ports.specs.Assigning.{assignedSaid, assignedPorts};
+ghost use Rattle.eeprom.specs.Range.{newSaid, byteSaid, writeSaid, writePos, writeImage};
+ghost use Rattle.held.specs.Range.{alone, stands, rangeOn, rangeMutOn, after, skipOf, byteOf, readOf, readInto, exactOf, afterExact, exactInto, writeOf, written};
 ghost use Rattle.held.specs.Answers.{saidOutcome, saidByteRead, saidCounted};
 
 mod step;
@@ -65,7 +66,7 @@ pub struct CountStep {
     pub byte_pos: Pos,
 }
 
-// A range that was asked for; refused, it is the empty one at 0.
+// A range that was asked for; refused, it is a closed one, on which every later call is 14.
 pub struct Opened<'a> {
     pub answer: Outcome,
     pub range: EepromRange<'a>,
@@ -123,7 +124,7 @@ impl<'a> EepromRange<'a> {
 
     // Reads into the whole of buf; where the range has less, into as much of it. Refuses 14, then 2.
     pub fn read_exact(&mut self, chunk: Chunk, buf: &mut [u8]) -> Outcome
-        ensures { λ d. ⌜ (saidOutcome d ≡ alone (exactOf (now (self .entry)) (now (buf .entry)))) × ((now (self .exit) ≡ after (now (self .entry)) (exactOf (now (self .entry)) (now (buf .entry)))) × (now (buf .exit) ≡ exactInto (now (self .entry)) (now (buf .entry)))) ⌝ }
+        ensures { λ d. ⌜ (saidOutcome d ≡ exactOf (now (self .entry)) (now (buf .entry))) × ((now (self .exit) ≡ afterExact (now (self .entry)) (now (buf .entry))) × (now (buf .exit) ≡ exactInto (now (self .entry)) (now (buf .entry)))) ⌝ }
     {
         let s = exact_step(self.image, self.byte_pos, self.end, chunk, buf);
         self.byte_pos = s.byte_pos;
@@ -150,7 +151,7 @@ impl<'a> EepromRangeMut<'a> {
 
     // Writes the bytes as words, while the position is before the end. Refuses 14, then 7, which keeps the words already written.
     pub fn write(&mut self, bytes: &[u8]) -> Counted
-        ensures { λ d. ⌜ (saidCounted d ≡ alone (writeOf (now (self .entry)) (now (bytes .entry)))) × (now (self .exit) ≡ written (now (self .entry)) (now (bytes .entry))) ⌝ }
+        ensures { λ d. ⌜ (saidCounted d ≡ writeOf (now (self .entry)) (now (bytes .entry))) × (now (self .exit) ≡ written (now (self .entry)) (now (bytes .entry))) ⌝ }
     {
         let byte_pos = self.byte_pos;
         let end = self.end;
@@ -178,7 +179,7 @@ pub fn byte_in(image: &[u8], byte_pos: Pos, end: Pos, chunk: Chunk) -> ByteStep
 
 // Writes to the image at a position, and says the position after that: a range made here, lent to `write`, and looked at again. Refuses 14, then 7.
 pub fn write_in(image: &mut [u8], byte_pos: Pos, end: Pos, bytes: &[u8]) -> CountStep
-    ensures { λ r. ⌜ ((saidCounted (r .answer) ≡ alone (writeSaid (now (image .entry)) «byte_pos» end (now (bytes .entry)))) × (r .«byte_pos» ≡ stands «byte_pos» (writeSaid (now (image .entry)) «byte_pos» end (now (bytes .entry))))) × (now (image .exit) ≡ writeImage (now (image .entry)) «byte_pos» end (now (bytes .entry))) ⌝ }
+    ensures { λ r. ⌜ ((saidCounted (r .answer) ≡ writeSaid (now (image .entry)) «byte_pos» end (now (bytes .entry))) × (r .«byte_pos» ≡ writePos (now (image .entry)) «byte_pos» end (now (bytes .entry)))) × (now (image .exit) ≡ writeImage (now (image .entry)) «byte_pos» end (now (bytes .entry))) ⌝ }
 {
     let mut range = EepromRangeMut {
         image: image,
@@ -201,7 +202,7 @@ pub fn set_receive_times(ports: &mut Ports, time_p0: u32, time_p3: u32, time_p1:
 
 // Links a downstream device in the caller's record, to the next port that has none. Refuses 14 for device 0, then 9.
 pub fn assign_next_downstream_port(ports: &mut Ports, downstream_subdevice_index: u16) -> PortAnswer
-    ensures { λ r. ⌜ (r ≡ assignedOf (now (ports .entry)) «downstream_subdevice_index» .answer) × (now (ports .exit) ≡ assignedOf (now (ports .entry)) «downstream_subdevice_index» .ports) ⌝ }
+    ensures { λ r. ⌜ (saidPort r ≡ assignedSaid (now (ports .entry)) «downstream_subdevice_index») × (now (ports .exit) ≡ assignedPorts (now (ports .entry)) «downstream_subdevice_index») ⌝ }
 {
     let a = ports.assign_next_downstream_port(downstream_subdevice_index);
     *ports = a.ports;
@@ -210,7 +211,7 @@ pub fn assign_next_downstream_port(ports: &mut Ports, downstream_subdevice_index
 
 // The same for a record by value: it is copied, lent and handed back.
 pub fn after_assign(ports: Ports, downstream_subdevice_index: u16) -> Assigned
-    ensures { λ r. ⌜ r ≡ assignedOf ports «downstream_subdevice_index» ⌝ }
+    ensures { λ r. ⌜ (saidPort (r .answer) ≡ assignedSaid ports «downstream_subdevice_index») × (r .ports ≡ assignedPorts ports «downstream_subdevice_index») ⌝ }
 {
     let mut record = ports;
     let answer = assign_next_downstream_port(&mut record, downstream_subdevice_index);

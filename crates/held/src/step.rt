@@ -12,12 +12,14 @@ use eeprom::Range;
 use eeprom::RangeAnswer;
 use eeprom::Reading;
 use eeprom::Writing;
-use refusal::Refusal;
 ghost use mathlib.Core.Path.{_≡_};
 ghost use lib.ListN.{length};
-ghost use Rattle.eeprom.specs.Range.{newSaid, skipSaid, byteSaid, readSaid, readBuf, exactSaid, exactBuf, writeSaid, writeImage};
+ghost use Rattle.eeprom.specs.Range.{newSaid, skipSaid, byteSaid, readSaid, readBuf, exactSaid, exactPos, exactBuf, writeSaid, writePos, writeImage};
 ghost use Rattle.held.specs.Range.{alone, stands, ends};
 ghost use Rattle.held.specs.Answers.{saidOutcome, saidByteRead, saidCounted};
+
+// The end of the range that a refused `new` hands out: an odd one, so that every later call on it is 14.
+const CLOSED_END: Pos = 1;
 
 // A range that was asked for, and whether there is one.
 pub(crate) struct RangeStep {
@@ -32,7 +34,7 @@ pub(crate) struct OutcomeStep {
     pub(crate) byte_pos: Pos,
 }
 
-// The range from a word on, for a number of words; refused, the empty one at 0.
+// The range from a word on, for a number of words; refused, a closed one at 0.
 pub(crate) fn range_step(start_word: u16, len_words: u16) -> RangeStep
     ensures { λ r. ⌜ (saidOutcome (r .answer) ≡ alone (newSaid «start_word» «len_words»)) × ((r .«byte_pos» ≡ stands 0 (newSaid «start_word» «len_words»)) × (r .end ≡ ends (newSaid «start_word» «len_words»))) ⌝ }
 {
@@ -45,7 +47,7 @@ pub(crate) fn range_step(start_word: u16, len_words: u16) -> RangeStep
         RangeAnswer::No(x) => RangeStep {
             answer: Outcome::No(x),
             byte_pos: 0,
-            end: 0,
+            end: CLOSED_END,
         },
     }
 }
@@ -107,7 +109,7 @@ pub(crate) fn read_step(
     }
 }
 
-// The outcome of an exact read, and the position after it; a short one is refusal 2.
+// The outcome of an exact read, and the position after it.
 pub(crate) fn exact_step(
     image: &[u8],
     byte_pos: Pos,
@@ -115,42 +117,40 @@ pub(crate) fn exact_step(
     chunk: Chunk,
     buf: &mut [u8],
 ) -> OutcomeStep
-    ensures { λ r. ⌜ ((saidOutcome (r .answer) ≡ alone (exactSaid (now (image .entry)) «byte_pos» end (length (now (buf .entry))))) × (r .«byte_pos» ≡ stands «byte_pos» (exactSaid (now (image .entry)) «byte_pos» end (length (now (buf .entry)))))) × (now (buf .exit) ≡ exactBuf (now (image .entry)) «byte_pos» end (now (buf .entry))) ⌝ }
+    ensures { λ r. ⌜ ((saidOutcome (r .answer) ≡ exactSaid (now (image .entry)) «byte_pos» end (length (now (buf .entry)))) × (r .«byte_pos» ≡ exactPos (now (image .entry)) «byte_pos» end (length (now (buf .entry))))) × (now (buf .exit) ≡ exactBuf (now (image .entry)) «byte_pos» end (now (buf .entry))) ⌝ }
 {
     let range = Range { byte_pos, end };
-    match range.read_exact(image, chunk, buf) {
-        Exact::Full(g) => OutcomeStep {
+    let r = range.read_exact(image, chunk, buf);
+    let after = r.range;
+    let answer = r.answer;
+    match answer {
+        Exact::Full => OutcomeStep {
             answer: Outcome::Done,
-            byte_pos: g.byte_pos,
-        },
-        Exact::Short(g) => OutcomeStep {
-            answer: Outcome::No(Refusal::Overrun),
-            byte_pos: g.byte_pos,
+            byte_pos: after.byte_pos,
         },
         Exact::No(x) => OutcomeStep {
             answer: Outcome::No(x),
-            byte_pos,
+            byte_pos: after.byte_pos,
         },
     }
 }
 
-// How many bytes a write takes, and the position after them; one that stopped is refusal 7.
+// How many bytes a write takes, and the position after them.
 pub(crate) fn write_step(image: &mut [u8], byte_pos: Pos, end: Pos, bytes: &[u8]) -> CountStep
-    ensures { λ r. ⌜ ((saidCounted (r .answer) ≡ alone (writeSaid (now (image .entry)) «byte_pos» end (now (bytes .entry)))) × (r .«byte_pos» ≡ stands «byte_pos» (writeSaid (now (image .entry)) «byte_pos» end (now (bytes .entry))))) × (now (image .exit) ≡ writeImage (now (image .entry)) «byte_pos» end (now (bytes .entry))) ⌝ }
+    ensures { λ r. ⌜ ((saidCounted (r .answer) ≡ writeSaid (now (image .entry)) «byte_pos» end (now (bytes .entry))) × (r .«byte_pos» ≡ writePos (now (image .entry)) «byte_pos» end (now (bytes .entry)))) × (now (image .exit) ≡ writeImage (now (image .entry)) «byte_pos» end (now (bytes .entry))) ⌝ }
 {
     let range = Range { byte_pos, end };
-    match range.write(image, bytes) {
-        Writing::Written(n, g) => CountStep {
+    let r = range.write(image, bytes);
+    let after = r.range;
+    let answer = r.answer;
+    match answer {
+        Writing::Written(n) => CountStep {
             answer: Counted::Bytes(n),
-            byte_pos: g.byte_pos,
-        },
-        Writing::Stopped(g) => CountStep {
-            answer: Counted::No(Refusal::NotWritable),
-            byte_pos: g.byte_pos,
+            byte_pos: after.byte_pos,
         },
         Writing::No(x) => CountStep {
             answer: Counted::No(x),
-            byte_pos,
+            byte_pos: after.byte_pos,
         },
     }
 }

@@ -2,17 +2,17 @@
 use Prim.Native.Nat.{ℕ, zero, suc, _+_, _*_, _≤_, _<_}
 use native.Mathlib.Omega.{arith}
 use native.Mathlib.Numerals.{add-one}
-use mathlib.Core.Path.{_≡_, refl}
+use mathlib.Core.Path.{_≡_, refl, sym, _∙_}
 use mathlib.Core.Bool.{Bool, true, false}
 use mathlib.Core.List.{List}
 use lib.Dec.{leb}
-use borrow.Author.Tests.{leb-true}
+use borrow.Author.Tests.{leb-true, leb-false, lt-leb}
 use Rattle.refusal.specs.Said.{pick}
 use Rattle.wire.specs.Bytes.{byteAt, Bytes}
-use Rattle.sii.specs.Layout.{Field, byte, word, long, field}
-use Rattle.lists.specs.Layout.{physicalStartAddress, smLength, controlRegister, enableSyncM, syncMType, fmmuUsage, exSyncM, pdoIndex, nEntry, pdoSyncM}
+use Rattle.sii.specs.Layout.{Field, byte, word, long, past, field}
+use Rattle.lists.specs.Layout.{smBytes, fmmuBytes, exBytes, pdoBytes, entryBytes, bitLength, physicalStartAddress, smLength, controlRegister, enableSyncM, syncMType, fmmuUsage, exSyncM, pdoIndex, nEntry, pdoSyncM}
 use Rattle.lists.specs.Records.{Item, one, none, bad}
-use Rattle.lists.specs.Inside.{SameIn, Moves, Local}
+use Rattle.lists.specs.Inside.{SameIn, Moves, Stops, Local}
 use Rattle.lists.specs.SyncManagers.{smOf, smAdmits, smAt}
 use Rattle.lists.specs.Fmmus.{usageAdmits, usageOf, usageAt, exAt, fmmuAt}
 use Rattle.lists.specs.Pdos.{entriesOf, pdoEnd, sumTo, entryBits, pdoOf, pdoAt, bitLenBelow}
@@ -36,15 +36,15 @@ sized-moves end p n u r r′ q h e =
 
 pub sm-moves : Moves smAt
 unfolding smAt
-sm-moves image end p r q e = sized-moves end p 8 (smAdmits (smOf image p)) r (smOf image p) q (omega arith) e
+sm-moves image end p r q e = sized-moves end p smBytes (smAdmits (smOf image p)) r (smOf image p) q (omega arith) e
 
 pub usage-moves : Moves usageAt
 unfolding usageAt
-usage-moves image end p r q e = sized-moves end p 1 (usageAdmits (field image p fmmuUsage)) r (usageOf (field image p fmmuUsage)) q (omega arith) e
+usage-moves image end p r q e = sized-moves end p fmmuBytes (usageAdmits (field image p fmmuUsage)) r (usageOf (field image p fmmuUsage)) q (omega arith) e
 
 pub ex-moves : Moves exAt
 unfolding exAt
-ex-moves image end p r q e = sized-moves end p 3 true r (field image p exSyncM) q (omega arith) e
+ex-moves image end p r q e = sized-moves end p exBytes true r (field image p exSyncM) q (omega arith) e
 
 pub fmmu-moves : (k : FmmuKind) → Moves (fmmuAt k)
 fmmu-moves kind.Usage = usage-moves
@@ -53,18 +53,56 @@ fmmu-moves kind.Ex = ex-moves
 pub pdo-moves : Moves pdoAt
 unfolding pdoAt
 pdo-moves image end p r q e =
-    let f = ends-in (leb (p + 8) end) (leb (pdoEnd image p) end) r (pdoOf image p) q (pdoEnd image p) e in
+    let f = ends-in (leb (p + pdoBytes) end) (leb (pdoEnd image p) end) r (pdoOf image p) q (pdoEnd image p) e in
     (omega (arith, f .2), omega (arith, f .2, leb-true (pdoEnd image p) end (f .1)))
+
+-- ---- where a list ends
+
+-- a test that lets through what is a record or bad, and else there is none
+sized-only : {R : Type 0} (end p n : ℕ) (x : Item R) (t : Bool) → leb (p + n) end ≡ t → (none ≡ x → ⊥) → none ≡ pick t x none → end < p + n
+sized-only end p n x true e h i = absurd (h i)
+sized-only end p n x false e h i = leb-false (p + n) end e
+
+sized-surely : {R : Type 0} (end p n : ℕ) (x : Item R) → end < p + n → none ≡ pick (leb (p + n) end) x none
+sized-surely end p n x h = rw (lt-leb _ _ h)
+
+-- what is let through is none of the none
+pub one-some : {R : Type 0} (r : R) (q : ℕ) → none ≡ one r q → ⊥
+one-some r q e = let z : _≡_ {A = ℕ} 0 1 = cc in absurd (omega arith)
+
+pick-some : {R : Type 0} (u : Bool) (r : R) (q : ℕ) → none ≡ pick u (one r q) bad → ⊥
+pick-some true r q e = let z : _≡_ {A = ℕ} 0 1 = cc in absurd (omega arith)
+pick-some false r q e = let z : _≡_ {A = ℕ} 0 1 = cc in absurd (omega arith)
+
+-- kinds of record of a fixed size, and any whose item is of this form
+pub sized-stops : {R : Type 0} (least : ℕ) (item : List ℕ → ℕ → ℕ → Item R) (x : List ℕ → ℕ → ℕ → Item R) →
+    ((image : List ℕ) (end p : ℕ) → item image end p ≡ pick (leb (p + least) end) (x image end p) none) →
+    ((image : List ℕ) (end p : ℕ) → none ≡ x image end p → ⊥) → Stops item least
+sized-stops least item x f h = record {
+  only = λ image end p e. sized-only end p least (x image end p) (leb (p + least) end) refl (h image end p) (e ∙ f image end p);
+  surely = λ image end p k. sized-surely end p least (x image end p) k ∙ sym (f image end p);
+}
+
+pub sm-stops : Stops smAt smBytes
+unfolding smAt
+sm-stops = sized-stops smBytes smAt (λ image end p. pick (smAdmits (smOf image p)) (one (smOf image p) (p + smBytes)) bad) (λ image end p. refl) (λ image end p. pick-some (smAdmits (smOf image p)) (smOf image p) (p + smBytes))
+
+pub usage-stops : Stops usageAt fmmuBytes
+unfolding usageAt
+usage-stops =
+    sized-stops fmmuBytes usageAt (λ image end p. pick (usageAdmits (field image p fmmuUsage)) (one (usageOf (field image p fmmuUsage)) (p + fmmuBytes)) bad) (λ image end p. refl) (λ image end p. pick-some (usageAdmits (field image p fmmuUsage)) (usageOf (field image p fmmuUsage)) (p + fmmuBytes))
+
+pub ex-stops : Stops exAt exBytes
+unfolding exAt
+ex-stops = sized-stops exBytes exAt (λ image end p. one (field image p exSyncM) (p + exBytes)) (λ image end p. refl) (λ image end p. one-some _ _)
+
+pub pdo-stops : Stops pdoAt pdoBytes
+unfolding pdoAt
+pdo-stops = sized-stops pdoBytes pdoAt (λ image end p. pick (leb (pdoEnd image p) end) (one (pdoOf image p) (pdoEnd image p)) bad) (λ image end p. refl) (λ image end p. pick-some (leb (pdoEnd image p) end) (pdoOf image p) (pdoEnd image p))
 
 -- ---- what a record reads
 
--- the first byte behind a field
-abbrev pub stop : Field → ℕ
-stop (byte k) = k + 1
-stop (word k) = k + 2
-stop (long k) = k + 4
-
-pub field-in : (s t : List ℕ) (end p : ℕ) → SameIn p end s t → (f : Field) → p + stop f ≤ end → field s p f ≡ field t p f
+pub field-in : (s t : List ℕ) (end p : ℕ) → SameIn p end s t → (f : Field) → p + past f ≤ end → field s p f ≡ field t p f
 field-in s t end p e (byte k) h = e .bytes (p + k) (omega arith) (omega arith)
 field-in s t end p e (word k) h = rw (e .bytes (p + k) (omega arith) (omega arith), e .bytes (p + k + 1) (omega arith) (omega arith))
 field-in s t end p e (long k) h =
@@ -75,7 +113,7 @@ field-in s t end p e (long k) h =
       e .bytes (p + k + 2 + 1) (omega arith) (omega arith),
     )
 
-sm-same : (s t : List ℕ) (end p : ℕ) → SameIn p end s t → p + 8 ≤ end → smOf s p ≡ smOf t p
+sm-same : (s t : List ℕ) (end p : ℕ) → SameIn p end s t → p + smBytes ≤ end → smOf s p ≡ smOf t p
 unfolding smOf
 sm-same s t end p e h =
     rw (
@@ -93,27 +131,27 @@ same-if false a b else h = refl
 
 pub sm-local : Local smAt
 unfolding smAt
-sm-local s t end p e = same-if (leb (p + 8) end) _ _ none (λ h. rw (sm-same s t end p e (leb-true (p + 8) end h)))
+sm-local s t end p e = same-if (leb (p + smBytes) end) _ _ none (λ h. rw (sm-same s t end p e (leb-true (p + smBytes) end h)))
 
 pub usage-local : Local usageAt
 unfolding usageAt
-usage-local s t end p e = same-if (leb (p + 1) end) _ _ none (λ h. rw (field-in s t end p e fmmuUsage (omega (arith, leb-true (p + 1) end h))))
+usage-local s t end p e = same-if (leb (p + fmmuBytes) end) _ _ none (λ h. rw (field-in s t end p e fmmuUsage (omega (arith, leb-true (p + fmmuBytes) end h))))
 
 pub ex-local : Local exAt
 unfolding exAt
-ex-local s t end p e = same-if (leb (p + 3) end) _ _ none (λ h. rw (field-in s t end p e exSyncM (omega (arith, leb-true (p + 3) end h))))
+ex-local s t end p e = same-if (leb (p + exBytes) end) _ _ none (λ h. rw (field-in s t end p e exSyncM (omega (arith, leb-true (p + exBytes) end h))))
 
-entries-same : (s t : List ℕ) (end p : ℕ) → SameIn p end s t → p + 8 ≤ end → entriesOf s p ≡ entriesOf t p
+entries-same : (s t : List ℕ) (end p : ℕ) → SameIn p end s t → p + pdoBytes ≤ end → entriesOf s p ≡ entriesOf t p
 unfolding entriesOf
 entries-same s t end p e h = field-in s t end p e nEntry (omega arith)
 
-bits-same : (s t : List ℕ) (end p : ℕ) → SameIn p end s t → (n : ℕ) → p + 8 + 8 * n ≤ end → sumTo (entryBits s p) n ≡ sumTo (entryBits t p) n
+bits-same : (s t : List ℕ) (end p : ℕ) → SameIn p end s t → (n : ℕ) → p + pdoBytes + entryBytes * n ≤ end → sumTo (entryBits s p) n ≡ sumTo (entryBits t p) n
 unfolding sumTo entryBits
 bits-same s t end p e zero h = refl
 bits-same s t end p e (suc n) h =
-    rw (bits-same s t end p e n (omega arith), e .bytes (p + 8 + 8 * n + 5) (omega arith) (omega arith))
+    rw (bits-same s t end p e n (omega arith), e .bytes (p + pdoBytes + entryBytes * n + 5) (omega arith) (omega arith))
 
-pdo-same : (s t : List ℕ) (end p : ℕ) → SameIn p end s t → p + 8 + 8 * entriesOf t p ≤ end → pdoOf s p ≡ pdoOf t p
+pdo-same : (s t : List ℕ) (end p : ℕ) → SameIn p end s t → p + pdoBytes + entryBytes * entriesOf t p ≤ end → pdoOf s p ≡ pdoOf t p
 unfolding pdoOf
 pdo-same s t end p e h =
     rw (
@@ -126,8 +164,8 @@ pdo-same s t end p e h =
 pub pdo-local : Local pdoAt
 unfolding pdoAt
 pdo-local s t end p e =
-    same-if (leb (p + 8) end) _ _ none (λ h.
-    rw (entries-same s t end p e (leb-true (p + 8) end h)) (same-if (leb (pdoEnd t p) end) _ _ bad (λ k. rw (pdo-same s t end p e (leb-true (pdoEnd t p) end k)))))
+    same-if (leb (p + pdoBytes) end) _ _ none (λ h.
+    rw (entries-same s t end p e (leb-true (p + pdoBytes) end h)) (same-if (leb (pdoEnd t p) end) _ _ bad (λ k. rw (pdo-same s t end p e (leb-true (pdoEnd t p) end k)))))
 
 -- ---- the sum of bit lengths
 
@@ -150,5 +188,5 @@ bits-fit image b p (suc n) = omega (arith, bits-fit image b p n, b (p + 8 + 8 * 
 pub pdo-fits : (image : List ℕ) → Bytes image → (end p : ℕ) (r : Pdo) (q : ℕ) → one r q ≡ pdoAt image end p → r .«bit_len» < bitLenBelow
 unfolding pdoAt pdoOf entriesOf Bytes
 pdo-fits image b end p r q e =
-    let f = ends-in (leb (p + 8) end) (leb (pdoEnd image p) end) r (pdoOf image p) q (pdoEnd image p) e in
+    let f = ends-in (leb (p + pdoBytes) end) (leb (pdoEnd image p) end) r (pdoOf image p) q (pdoEnd image p) e in
     rw (f .3) (omega (arith, bits-fit image b p (byteAt image (p + 2)), b (p + 2)))

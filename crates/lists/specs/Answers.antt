@@ -1,4 +1,4 @@
--- What each answer says, in document 01's numbers and values. Definitions only.
+-- What each answer says, in numbers and values (RULES, refusals). Definitions only.
 use Prim.Native.Nat.{ℕ}
 use mathlib.Core.List.{[]}
 use Rattle.refusal.specs.Said.{Said, gives, saidOf}

@@ -8,21 +8,21 @@ use Rattle.category.specs.Numbers as numbers
 use Rattle.category.specs.Category.{categorySaid}
 use Rattle.sii.specs.Layout.{field}
 use Rattle.sii.specs.General.{listed}
-use Rattle.lists.specs.Layout.{fmmuBytes, fmmuUsage, exBytes, exSyncM}
+use Rattle.lists.specs.Layout.{fmmuBytes, fmmuUsage, fmmuUsageLast, fmmuUnused, exBytes, exSyncM}
 use Rattle.lists.specs.Records.{Item, one, none, bad, Listed, records, inCategory}
 use Rattle.lists.specs.declared.FmmuKind.{FmmuKind}
 use Rattle.lists.specs.declared.FmmuKind.the-variants as kind
 
--- the most FMMUs (ETG1000.4 6.6.1): of usages, the bytes that are looked at; of extended FMMUs, document 01's limit
+-- the most FMMUs (ETG1000.4 6.6.1): of usages, the bytes that are looked at; of extended FMMUs, the most that are listed (RULES, limits)
 abbrev pub fmmuMost : ℕ
 fmmuMost = 16
 
--- the usages: unused (0, and 0xFF), outputs, inputs, sync manager status; no other is admitted
+-- no usage is admitted that is not listed
 unfoldable pub usageAdmits : ℕ → Bool
-usageAdmits u = pick (leb u 3) true (eqb u 255)
+usageAdmits u = pick (leb u fmmuUsageLast) true (eqb u fmmuUnused)
 
 abbrev pub usageOf : ℕ → ℕ
-usageOf u = listed 3 u
+usageOf u = listed fmmuUsageLast u
 
 -- what stands at p of a category that ends at end
 unfoldable pub usageAt : List ℕ → ℕ → ℕ → Item ℕ

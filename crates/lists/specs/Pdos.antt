@@ -1,6 +1,6 @@
 -- PDOs as the SII lists them. Definitions only.
 use Prim.Native.Nat.{ℕ, zero, suc, _+_, _*_}
-use mathlib.Core.List.{List}
+use mathlib.Core.List.{List, [], _∷_}
 use lib.Dec.{leb}
 use Rattle.refusal.specs.Said.{pick}
 use Rattle.category.specs.Category.{categorySaid}
@@ -9,7 +9,7 @@ use Rattle.lists.specs.Layout.{pdoBytes, pdoIndex, nEntry, pdoSyncM, ent
 use Rattle.lists.specs.Records.{Item, one, none, bad, Listed, records, inCategory}
 use Rattle.lists.specs.declared.Pdo.{Pdo}
 
--- document 01's limit
+-- the most that are listed (RULES, limits); one more is 6
 abbrev pub pdoMost : ℕ
 pdoMost = 64
 
@@ -46,6 +46,10 @@ pdoOf image p = record {
   «sync_manager» = field image p pdoSyncM;
   «bit_len» = bitsOf image p;
 }
+
+-- the numbers that a list gives of it
+abbrev pub pdoValues : Pdo → List ℕ
+pdoValues p = p .index ∷ p .«num_entries» ∷ p .«sync_manager» ∷ p .«bit_len» ∷ []
 
 -- what stands at p of a category that ends at end; an entry that is missing is bad
 unfoldable pub pdoAt : List ℕ → ℕ → ℕ → Item Pdo

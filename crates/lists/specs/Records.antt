@@ -1,4 +1,4 @@
--- A list of the SII: the records of a category, one behind the other, in a counted array. Document 01, 'What is read out', its lists.
+-- A list of the SII: the records of a category, one behind the other, in a counted array. RULES, lists.
 -- A kind of record is one function, which says what stands at a position of a category that ends somewhere. Definitions only.
 use Prim.Native.Nat.{ℕ, zero, suc, _-_}
 use mathlib.Core.List.{List, [], _∷_, _++_}

@@ -1,5 +1,36 @@
 // The lists of the SII: sync managers, FMMUs and PDOs, the records of a category one behind the other, in a counted array.
-// Follows subdevice/eeprom.rs and eeprom/types.rs; document 01, 'What is read out'. specs/Layout.antt says where each field lies.
+// Follows subdevice/eeprom.rs and eeprom/types.rs; RULES, lists. specs/Layout.antt says where each field lies.
+mod layout;
+
+use crate::layout::BIT_LENGTH;
+use crate::layout::CONTROL_REGISTER;
+use crate::layout::DIRECTION_LAST;
+use crate::layout::DLS_USER_EVENT;
+use crate::layout::ECAT_EVENT;
+use crate::layout::ENABLE_BELOW;
+use crate::layout::ENABLE_SYNC_M;
+use crate::layout::ENTRY_BYTES;
+use crate::layout::EX_BYTES;
+use crate::layout::EX_SYNC_M;
+use crate::layout::FMMU_BYTES;
+use crate::layout::FMMU_MOST;
+use crate::layout::FMMU_UNUSED;
+use crate::layout::FMMU_USAGE_LAST;
+use crate::layout::MAILBOX_MODE;
+use crate::layout::MAILBOX_READ;
+use crate::layout::MAILBOX_WRITE;
+use crate::layout::N_ENTRY;
+use crate::layout::PDO_BYTES;
+use crate::layout::PDO_MOST;
+use crate::layout::PDO_SYNC_M;
+use crate::layout::PROCESS_DATA_READ;
+use crate::layout::PROCESS_DATA_WRITE;
+use crate::layout::SM_BYTES;
+use crate::layout::SM_LENGTH;
+use crate::layout::SM_MOST;
+use crate::layout::SYNC_M_TYPE;
+use crate::layout::SYNC_M_TYPE_LAST;
+use crate::layout::WATCHDOG;
 use category::FMMU;
 use category::FMMU_EXTENDED;
 use category::Found;
@@ -11,16 +42,18 @@ use eeprom::Chunk;
 use eeprom::byte_of;
 use eeprom::word_of;
 use refusal::Refusal;
+use wire::flag;
 ghost use mathlib.Core.Path.{_≡_};
 ghost use Prim.Native.Nat.{_+_, _/_, _%_, _≤_, min};
 ghost use lib.ListN.{replicate};
 ghost use Rattle.refusal.specs.Said.{numberOf, valuesOf};
 ghost use Rattle.category.specs.Numbers.{txPdo, rxPdo};
+ghost use Rattle.sii.specs.Layout.{placeMost};
 ghost use Rattle.sii.specs.General.{listed};
 ghost use Rattle.lists.specs.Records.{no, holds, records, back};
-ghost use Rattle.lists.specs.SyncManagers.{modeOf, smOf, smZero, smMost, smAt, smsOf};
+ghost use Rattle.lists.specs.SyncManagers.{modeOf, recovered, usageTypeOf, smOf, smValues, smZero, smMost, smAt, smsOf};
 ghost use Rattle.lists.specs.Fmmus.{fmmuMost, usageAdmits, usageAt, usagesOf, exAt, exOf, fmmuAt};
-ghost use Rattle.lists.specs.Pdos.{entriesOf, sumTo, entryBits, pdoOf, pdoZero, pdoMost, pdoAt, pdosOf};
+ghost use Rattle.lists.specs.Pdos.{entriesOf, sumTo, entryBits, pdoOf, pdoValues, pdoZero, pdoMost, pdoAt, pdosOf};
 ghost use Rattle.lists.specs.Answers.{itemSm, backSms, itemPdo, backPdos, itemFmmu, backFmmus};
 
 // What a list's call says: listed, or a refusal, and then the list is empty.
@@ -139,7 +172,7 @@ fn no_sms(answer: ListAnswer) -> SyncManagers
 
 // The list of a category from start to end.
 fn sms_in(image: &[u8], chunk: Chunk, start: u32, end: u32) -> SyncManagers
-    requires { ⌜ (start ≤ 1000000) × (end ≤ 1000000) ⌝ }
+    requires { ⌜ (start ≤ placeMost) × (end ≤ placeMost) ⌝ }
     ensures { λ r. ⌜ backSms r ≡ back smZero smMost (records (smAt (now (image .entry)) end) smMost start) ⌝ }
 {
     let none = no_sms(ListAnswer::Listed);
@@ -149,7 +182,7 @@ fn sms_in(image: &[u8], chunk: Chunk, start: u32, end: u32) -> SyncManagers
     loop {
         match sm_item(image, chunk, at, end) {
             SmItem::One(sm, next) => {
-                if count < 8 {
+                if count < SM_MOST {
                     items[count] = sm;
                     count += 1;
                     at = next;
@@ -172,13 +205,13 @@ fn sms_in(image: &[u8], chunk: Chunk, start: u32, end: u32) -> SyncManagers
 }
 
 fn sm_item(image: &[u8], chunk: Chunk, at: u32, end: u32) -> SmItem
-    requires { ⌜ at ≤ 1000000 ⌝ }
+    requires { ⌜ at ≤ placeMost ⌝ }
     ensures { λ r. ⌜ itemSm r ≡ smAt (now (image .entry)) end at ⌝ }
 {
-    let next = at + 8;
+    let next = at + SM_BYTES;
     if next <= end {
         let sm = sm_at(image, chunk, at);
-        if sm.enable < 16 {
+        if sm.enable < ENABLE_BELOW {
             SmItem::One(sm, next)
         } else {
             SmItem::Bad
@@ -189,31 +222,62 @@ fn sm_item(image: &[u8], chunk: Chunk, at: u32, end: u32) -> SmItem
 }
 
 fn sm_at(image: &[u8], chunk: Chunk, at: u32) -> SyncManager
-    requires { ⌜ at ≤ 1000000 ⌝ }
+    requires { ⌜ at ≤ placeMost ⌝ }
     ensures { λ r. ⌜ r ≡ smOf (now (image .entry)) at ⌝ }
 {
     let start_addr = word_of(image, chunk, at);
-    let length_bytes = word_of(image, chunk, at + 2);
-    let control = byte_of(image, chunk, at + 4);
-    let enable = byte_of(image, chunk, at + 6);
-    let usage = byte_of(image, chunk, at + 7);
+    let length_bytes = word_of(image, chunk, at + SM_LENGTH);
+    let control = byte_of(image, chunk, at + CONTROL_REGISTER);
+    let enable = byte_of(image, chunk, at + ENABLE_SYNC_M);
+    let usage = byte_of(image, chunk, at + SYNC_M_TYPE);
     SyncManager {
         start_addr,
         length_bytes,
         operation_mode: mode(control),
-        direction: or_default(control / 4 % 4, 1),
-        ecat_event_enable: control / 16 % 2 == 1,
-        dls_user_event_enable: control / 32 % 2 == 1,
-        watchdog_enable: control / 64 % 2 == 1,
+        direction: or_default(control / 4 % 4, DIRECTION_LAST),
+        ecat_event_enable: control / ECAT_EVENT % 2 == 1,
+        dls_user_event_enable: control / DLS_USER_EVENT % 2 == 1,
+        watchdog_enable: control / WATCHDOG % 2 == 1,
         enable,
-        usage_type: or_default(usage, 4),
+        usage_type: or_default(usage, SYNC_M_TYPE_LAST),
     }
 }
 
 fn mode(control: u8) -> u8
     ensures { λ r. ⌜ r ≡ modeOf control ⌝ }
 {
-    if control % 4 == 2 { 2 } else { 0 }
+    if control % 4 == MAILBOX_MODE {
+        MAILBOX_MODE
+    } else {
+        0
+    }
+}
+
+// The usage of a sync manager, as the Rust recovers it where none is given: from its mode and direction.
+pub fn usage_type(sm: SyncManager) -> u8
+    ensures { λ r. ⌜ r ≡ usageTypeOf sm ⌝ }
+{
+    if sm.usage_type == 0 {
+        recovered(sm.operation_mode, sm.direction)
+    } else {
+        sm.usage_type
+    }
+}
+
+fn recovered(mode: u8, direction: u8) -> u8
+    ensures { λ r. ⌜ r ≡ recovered mode direction ⌝ }
+{
+    if mode == MAILBOX_MODE {
+        if direction == 0 {
+            MAILBOX_READ
+        } else {
+            MAILBOX_WRITE
+        }
+    } else if direction == 0 {
+        PROCESS_DATA_READ
+    } else {
+        PROCESS_DATA_WRITE
+    }
 }
 
 // A value of an enum whose listed ones are 0 to the last; one not listed is the default, 0.
@@ -259,16 +323,16 @@ fn no_fmmus(answer: ListAnswer) -> FmmuList
 }
 
 fn usages_in(image: &[u8], chunk: Chunk, start: u32, end: u32) -> FmmuList
-    requires { ⌜ (start ≤ 1000000) × (end ≤ 1000000) ⌝ }
+    requires { ⌜ (start ≤ placeMost) × (end ≤ placeMost) ⌝ }
     ensures { λ r. ⌜ backFmmus r ≡ back 0 fmmuMost (records (usageAt (now (image .entry)) (min end (start + fmmuMost))) fmmuMost start) ⌝ }
 {
-    let stop = wire::lesser(end as usize, start as usize + 16) as u32;
+    let stop = wire::lesser(end as usize, start as usize + FMMU_MOST) as u32;
     fmmus_in(image, chunk, FmmuKind::Usage, start, stop)
 }
 
 // The list of a category from start to end.
 fn fmmus_in(image: &[u8], chunk: Chunk, kind: FmmuKind, start: u32, end: u32) -> FmmuList
-    requires { ⌜ (start ≤ 1000000) × (end ≤ 1000000) ⌝ }
+    requires { ⌜ (start ≤ placeMost) × (end ≤ placeMost) ⌝ }
     ensures { λ r. ⌜ backFmmus r ≡ back 0 fmmuMost (records (fmmuAt kind (now (image .entry)) end) fmmuMost start) ⌝ }
 {
     let none = no_fmmus(ListAnswer::Listed);
@@ -278,7 +342,7 @@ fn fmmus_in(image: &[u8], chunk: Chunk, kind: FmmuKind, start: u32, end: u32) ->
     loop {
         match fmmu_item(image, chunk, kind, at, end) {
             FmmuItem::One(value, next) => {
-                if count < 16 {
+                if count < FMMU_MOST {
                     items[count] = value;
                     count += 1;
                     at = next;
@@ -301,7 +365,7 @@ fn fmmus_in(image: &[u8], chunk: Chunk, kind: FmmuKind, start: u32, end: u32) ->
 }
 
 fn fmmu_item(image: &[u8], chunk: Chunk, kind: FmmuKind, at: u32, end: u32) -> FmmuItem
-    requires { ⌜ at ≤ 1000000 ⌝ }
+    requires { ⌜ at ≤ placeMost ⌝ }
     ensures { λ r. ⌜ itemFmmu r ≡ fmmuAt kind (now (image .entry)) end at ⌝ }
 {
     match kind {
@@ -311,14 +375,14 @@ fn fmmu_item(image: &[u8], chunk: Chunk, kind: FmmuKind, at: u32, end: u32) -> F
 }
 
 fn usage_item(image: &[u8], chunk: Chunk, at: u32, end: u32) -> FmmuItem
-    requires { ⌜ at ≤ 1000000 ⌝ }
+    requires { ⌜ at ≤ placeMost ⌝ }
     ensures { λ r. ⌜ itemFmmu r ≡ usageAt (now (image .entry)) end at ⌝ }
 {
-    let next = at + 1;
+    let next = at + FMMU_BYTES;
     if next <= end {
         let usage = byte_of(image, chunk, at);
         if usage_admitted(usage) {
-            FmmuItem::One(or_default(usage, 3), next)
+            FmmuItem::One(or_default(usage, FMMU_USAGE_LAST), next)
         } else {
             FmmuItem::Bad
         }
@@ -330,16 +394,20 @@ fn usage_item(image: &[u8], chunk: Chunk, at: u32, end: u32) -> FmmuItem
 fn usage_admitted(usage: u8) -> bool
     ensures { λ r. ⌜ r ≡ usageAdmits usage ⌝ }
 {
-    if usage <= 3 { true } else { usage == 255 }
+    if usage <= FMMU_USAGE_LAST {
+        true
+    } else {
+        usage == FMMU_UNUSED
+    }
 }
 
 fn ex_item(image: &[u8], chunk: Chunk, at: u32, end: u32) -> FmmuItem
-    requires { ⌜ at ≤ 1000000 ⌝ }
+    requires { ⌜ at ≤ placeMost ⌝ }
     ensures { λ r. ⌜ itemFmmu r ≡ exAt (now (image .entry)) end at ⌝ }
 {
-    let next = at + 3;
+    let next = at + EX_BYTES;
     if next <= end {
-        FmmuItem::One(byte_of(image, chunk, at + 1), next)
+        FmmuItem::One(byte_of(image, chunk, at + EX_SYNC_M), next)
     } else {
         FmmuItem::Stop
     }
@@ -390,7 +458,7 @@ fn no_pdos(answer: ListAnswer) -> PdoList
 
 // The list of a category from start to end.
 fn pdos_in(image: &[u8], chunk: Chunk, start: u32, end: u32) -> PdoList
-    requires { ⌜ (start ≤ 1000000) × (end ≤ 1000000) ⌝ }
+    requires { ⌜ (start ≤ placeMost) × (end ≤ placeMost) ⌝ }
     ensures { λ r. ⌜ backPdos r ≡ back pdoZero pdoMost (records (pdoAt (now (image .entry)) end) pdoMost start) ⌝ }
 {
     let none = no_pdos(ListAnswer::Listed);
@@ -400,7 +468,7 @@ fn pdos_in(image: &[u8], chunk: Chunk, start: u32, end: u32) -> PdoList
     loop {
         match pdo_item(image, chunk, at, end) {
             PdoItem::One(pdo, next) => {
-                if count < 64 {
+                if count < PDO_MOST {
                     items[count] = pdo;
                     count += 1;
                     at = next;
@@ -423,13 +491,13 @@ fn pdos_in(image: &[u8], chunk: Chunk, start: u32, end: u32) -> PdoList
 }
 
 fn pdo_item(image: &[u8], chunk: Chunk, at: u32, end: u32) -> PdoItem
-    requires { ⌜ at ≤ 1000000 ⌝ }
+    requires { ⌜ at ≤ placeMost ⌝ }
     ensures { λ r. ⌜ itemPdo r ≡ pdoAt (now (image .entry)) end at ⌝ }
 {
-    let body = at + 8;
+    let body = at + PDO_BYTES;
     if body <= end {
         let n = entries(image, chunk, at);
-        let next = body + 8 * (n as u32);
+        let next = body + ENTRY_BYTES * (n as u32);
         if next <= end {
             PdoItem::One(pdo_at(image, chunk, at, n), next)
         } else {
@@ -441,27 +509,27 @@ fn pdo_item(image: &[u8], chunk: Chunk, at: u32, end: u32) -> PdoItem
 }
 
 fn entries(image: &[u8], chunk: Chunk, at: u32) -> u8
-    requires { ⌜ at ≤ 1000000 ⌝ }
+    requires { ⌜ at ≤ placeMost ⌝ }
     ensures { λ r. ⌜ r ≡ entriesOf (now (image .entry)) at ⌝ }
 {
-    byte_of(image, chunk, at + 2)
+    byte_of(image, chunk, at + N_ENTRY)
 }
 
 fn pdo_at(image: &[u8], chunk: Chunk, at: u32, n: u8) -> Pdo
-    requires { ⌜ (at ≤ 1000000) × (n ≡ entriesOf (now image) at) ⌝ }
+    requires { ⌜ (at ≤ placeMost) × (n ≡ entriesOf (now image) at) ⌝ }
     ensures { λ r. ⌜ r ≡ pdoOf (now (image .entry)) at ⌝ }
 {
     Pdo {
         index: word_of(image, chunk, at),
         num_entries: n,
-        sync_manager: byte_of(image, chunk, at + 3),
+        sync_manager: byte_of(image, chunk, at + PDO_SYNC_M),
         bit_len: bits(image, chunk, at, n),
     }
 }
 
 // The sum of the bit lengths of the first n entries of the PDO at a position.
 fn bits(image: &[u8], chunk: Chunk, at: u32, n: u8) -> u16
-    requires { ⌜ at ≤ 1000000 ⌝ }
+    requires { ⌜ at ≤ placeMost ⌝ }
     ensures { λ r. ⌜ r ≡ sumTo (entryBits (now (image .entry)) at) n ⌝ }
 {
     let mut sum: u16 = 0;
@@ -475,8 +543,44 @@ fn bits(image: &[u8], chunk: Chunk, at: u32, n: u8) -> u16
 }
 
 fn entry_bits(image: &[u8], chunk: Chunk, at: u32, k: u8) -> u8
-    requires { ⌜ at ≤ 1000000 ⌝ }
+    requires { ⌜ at ≤ placeMost ⌝ }
     ensures { λ r. ⌜ r ≡ entryBits (now (image .entry)) at k ⌝ }
 {
-    byte_of(image, chunk, at + 8 + 8 * (k as u32) + 5)
+    byte_of(
+        image,
+        chunk,
+        at + PDO_BYTES + ENTRY_BYTES * (k as u32) + BIT_LENGTH,
+    )
+}
+
+// ---- each record as the numbers that a list gives of it, in their order
+
+pub fn sync_manager_row(s: SyncManager) -> [u64; 9]
+    ensures { λ r. ⌜ r ≡ smValues s ⌝ }
+{
+    let ecat_event = flag(s.ecat_event_enable);
+    let dls_user_event = flag(s.dls_user_event_enable);
+    let watchdog = flag(s.watchdog_enable);
+    [
+        s.start_addr as u64,
+        s.length_bytes as u64,
+        s.operation_mode as u64,
+        s.direction as u64,
+        ecat_event,
+        dls_user_event,
+        watchdog,
+        s.enable as u64,
+        s.usage_type as u64,
+    ]
+}
+
+pub fn pdo_row(p: Pdo) -> [u64; 4]
+    ensures { λ r. ⌜ r ≡ pdoValues p ⌝ }
+{
+    [
+        p.index as u64,
+        p.num_entries as u64,
+        p.sync_manager as u64,
+        p.bit_len as u64,
+    ]
 }

@@ -1,4 +1,7 @@
 // A command's file: its name, and its bytes, read whole into a lent room.
+use crate::text::WHOLE;
+use crate::text::end;
+use crate::text::error;
 use crate::text::label;
 use crate::text::line;
 use crate::text::plain;
@@ -12,6 +15,7 @@ fn begin(command: &[u8], path: &[u8]) {
     line(b"command", command);
     label(0, b"file");
     plain(path);
+    end(WHOLE);
 }
 
 // Why a file is not there to be read or written goes to standard error, in the system's words.
@@ -38,14 +42,14 @@ pub(crate) fn read(command: &[u8], path: &[u8], room: &mut [u8]) -> usize {
 // The line of a file's length, or of what is wrong with it.
 fn length(n: usize, got: isize, most: usize) -> usize {
     if got == 0 {
-        record(0, b",dfile bytes", &[0, n as u64]);
+        record(WHOLE, 0, b"dfile bytes", &[n as u64]);
         return n;
     }
     if got < 0 {
-        line(b"error", b"the file cannot be read");
+        error(b"the file cannot be read");
     } else {
-        line(b"error", b"the file is too large");
-        record(0, b",dbytes at most", &[0, most as u64]);
+        error(b"the file is too large");
+        record(WHOLE, 0, b"dbytes at most", &[most as u64]);
     }
     NOT_READ
 }

@@ -1,6 +1,9 @@
 // `morel frame`: the PDUs of a frame.
+use crate::status::ANSWERED;
+use crate::text::WHOLE;
 use crate::text::back;
 use crate::text::bytes;
+use crate::text::end;
 use crate::text::front;
 use crate::text::label;
 use crate::text::no;
@@ -12,18 +15,17 @@ use frame_reader::FrameRead;
 use pdu::PduFields;
 use wire::lesser;
 
-pub(crate) fn print(frame: &[u8]) {
+pub(crate) fn print(frame: &[u8]) -> u8 {
     let r = frame_reader::read_frame(frame);
     let answer = r.answer;
     match answer {
         FrameAnswer::Frame => pdus(frame, r),
-        FrameAnswer::No(x) => refused(b"pdus", no(x)),
+        FrameAnswer::No(x) => refused(WHOLE, b"pdus", no(x)),
     }
 }
 
-fn pdu(p: PduFields) -> [u64; 9] {
+fn pdu(p: PduFields) -> [u64; 8] {
     [
-        0,
         p.command as u64,
         p.index as u64,
         p.address as u64,
@@ -35,16 +37,16 @@ fn pdu(p: PduFields) -> [u64; 9] {
     ]
 }
 
-fn pdus(frame: &[u8], r: FrameRead) {
+fn pdus(frame: &[u8], r: FrameRead) -> u8 {
     let items = r.pdus;
     let n = lesser(r.count, 170);
-    record(0, b",dpdus", &[0, n as u64]);
+    record(WHOLE, 0, b"dpdus", &[n as u64]);
     let mut i = 0;
     while i < n {
         record(
+            WHOLE,
             i,
-            b",\
-              vpdu # command=NOP APRD APWR APRW FPRD FPWR FPRW BRD BWR BRW LRD LWR LRW ARMW FRMW,\
+            b"vpdu # command=NOP APRD APWR APRW FPRD FPWR FPRW BRD BWR BRW LRD LWR LRW ARMW FRMW,\
               dpdu # index,\
               8pdu # address,\
               dpdu # bytes,\
@@ -57,6 +59,7 @@ fn pdus(frame: &[u8], r: FrameRead) {
         payload(frame, i, items[i]);
         i += 1;
     }
+    ANSWERED
 }
 
 fn payload(frame: &[u8], i: usize, p: PduFields) {
@@ -66,5 +69,5 @@ fn payload(frame: &[u8], i: usize, p: PduFields) {
         say(b"-");
     }
     bytes(front(back(frame, p.place), len));
-    say(b"\n");
+    end(WHOLE);
 }

@@ -1,195 +1,240 @@
-// `morel sii`: what an EEPROM image holds, its fixed area and General here. A row has a refusal's number at its front, and 0 where there is none.
+// `morel sii`: what an EEPROM image holds, its fixed area and General here. What does not lie whole in the image is marked as cut.
+use crate::cut;
+use crate::cut::FIXED_END;
+use crate::cut::SIZE_END;
+use crate::cut::category_cut;
+use crate::cut::ends_before;
 use crate::records;
+use crate::status::WRONG;
+use crate::status::worse;
 use crate::text::no;
 use crate::text::record;
-use crate::text::wide8;
-use crate::text::wide16;
+use crate::text::refused;
 use crate::texts;
 use eeprom::Chunk;
 use setup::BootstrapAnswer;
 use setup::ChecksumAnswer;
+use setup::Checksums;
 use setup::PdiAnswer;
 use setup::VersionAnswer;
+use setup::bootstrap_row;
+use setup::pdi_row;
 use sii::AliasAnswer;
 use sii::GeneralAnswer;
 use sii::IdentityAnswer;
 use sii::MailboxAnswer;
+use sii::PortsAnswer;
 use sii::SizeAnswer;
+use sii::WordAnswer;
+use sii::general_row;
+use sii::identity_row;
+use sii::mailbox_row;
+use sii::ports_row;
 
-pub(crate) fn print(image: &[u8]) {
-    fixed(image);
-    identity_and_mailboxes(image);
-    record(
-        0,
-        b"general,\
-          dgeneral group string,\
-          dgeneral image string,\
-          dgeneral order string,\
-          dgeneral name string,\
-          fgeneral coe details=sdo sdo-info pdo-assign pdo-config startup-upload complete-access,\
-          ngeneral foe=no yes,\
-          ngeneral eoe=no yes,\
-          fgeneral flags=enable-safe-op enable-not-lrw mailbox-dll ident-al-status ident-phy-m,\
-          sgeneral ebus current,\
-          vgeneral port 0=Unused Mii Reserved Ebus FastHotConnect,\
-          vgeneral port 1=Unused Mii Reserved Ebus FastHotConnect,\
-          vgeneral port 2=Unused Mii Reserved Ebus FastHotConnect,\
-          vgeneral port 3=Unused Mii Reserved Ebus FastHotConnect,\
-          4general physical address",
-        &general(image),
-    );
-    texts::print(image);
-    records::print(image);
+// Where what is read of the fixed area ends, in bytes.
+const PDI_END: usize = 8;
+
+const ALIAS_END: usize = 10;
+
+const CHECKSUM_END: usize = 15;
+
+const IDENTITY_END: usize = 32;
+
+const BOOTSTRAP_END: usize = 48;
+
+const MAILBOX_END: usize = 57;
+
+pub(crate) fn print(image: &[u8]) -> u8 {
+    cut::print(image);
+    let fixed = worse(coding(image), setup_words(image));
+    let identity = worse(identity(image), mailboxes(image));
+    let general_cut = category_cut(image, category::GENERAL);
+    let general = worse(general(image, general_cut), physical(image, general_cut));
+    let texts = texts::print(image, general_cut);
+    let lists = records::print(image);
+    worse(worse(fixed, identity), worse(general, worse(texts, lists)))
 }
 
-fn fixed(image: &[u8]) {
-    record(0, b"sii bytes,dsii bytes", &size(image));
-    record(0, b"sii version,dsii version", &version(image));
-    record(
-        0,
-        b"checksum,nchecksum=wrong right,2checksum stored,2checksum computed",
-        &checksum(image),
-    );
-    record(0, b"alias,dalias", &alias(image));
-    record(
-        0,
-        b"pdi control,4pdi control,4pdi configuration,dsync impulse length,4pdi configuration 2",
-        &pdi(image),
-    );
+fn coding(image: &[u8]) -> u8 {
+    let size = size(image);
+    let version = version(image);
+    let checksum = checksum(image);
+    worse(size, worse(version, checksum))
 }
 
-fn identity_and_mailboxes(image: &[u8]) {
-    record(
-        0,
-        b"identity,8vendor,8product,8revision,8serial",
-        &identity(image),
-    );
-    record(
-        0,
-        b"bootstrap,\
-          4bootstrap receive offset,\
-          dbootstrap receive size,\
-          4bootstrap send offset,\
-          dbootstrap send size",
-        &bootstrap(image),
-    );
-    record(
-        0,
-        b"mailbox,\
-          4mailbox receive offset,\
-          dmailbox receive size,\
-          4mailbox send offset,\
-          dmailbox send size,\
-          fmailbox protocols=AoE EoE CoE FoE SoE VoE",
-        &mailbox(image),
-    );
+fn setup_words(image: &[u8]) -> u8 {
+    let alias = alias(image);
+    let pdi = pdi(image);
+    worse(alias, pdi)
 }
 
-fn size(image: &[u8]) -> [u64; 2] {
+fn mailboxes(image: &[u8]) -> u8 {
+    let bootstrap = bootstrap(image);
+    let mailbox = mailbox(image);
+    worse(bootstrap, mailbox)
+}
+
+fn size(image: &[u8]) -> u8 {
+    let cut = ends_before(image, SIZE_END);
     match sii::size(image, Chunk::Eight) {
-        SizeAnswer::Bytes(n) => [0, n as u64],
-        SizeAnswer::No(x) => [no(x), 0],
+        SizeAnswer::Bytes(n) => record(cut, 0, b"dsii bytes", &[n as u64]),
+        SizeAnswer::No(x) => refused(cut, b"sii bytes", no(x)),
     }
 }
 
-fn version(image: &[u8]) -> [u64; 2] {
+fn version(image: &[u8]) -> u8 {
+    let cut = ends_before(image, FIXED_END);
     match setup::version(image, Chunk::Eight) {
-        VersionAnswer::Version(n) => [0, n as u64],
-        VersionAnswer::No(x) => [no(x), 0],
+        VersionAnswer::Version(n) => record(cut, 0, b"dsii version", &[n as u64]),
+        VersionAnswer::No(x) => refused(cut, b"sii version", no(x)),
     }
 }
 
-fn checksum(image: &[u8]) -> [u64; 4] {
+fn checksum(image: &[u8]) -> u8 {
+    let cut = ends_before(image, CHECKSUM_END);
     match setup::checksum(image, Chunk::Eight) {
-        ChecksumAnswer::Is(c) => [
-            0,
-            (c.stored == c.computed) as u64,
-            c.stored as u64,
-            c.computed as u64,
-        ],
-        ChecksumAnswer::No(x) => [no(x), 0, 0, 0],
+        ChecksumAnswer::Is(c) => checksums(cut, c),
+        ChecksumAnswer::No(x) => refused(cut, b"checksum", no(x)),
     }
 }
 
-fn alias(image: &[u8]) -> [u64; 2] {
+// A checksum that is wrong is nothing that was refused, and yet the image is not as it should be.
+fn checksums(cut: bool, c: Checksums) -> u8 {
+    let right = c.stored == c.computed;
+    let status = record(
+        cut,
+        0,
+        b"nchecksum=wrong right,2checksum stored,2checksum computed",
+        &[right as u64, c.stored as u64, c.computed as u64],
+    );
+    if right { status } else { WRONG }
+}
+
+// Whether the stored checksum is that of the bytes before it.
+pub(crate) fn checksum_right(image: &[u8]) -> bool {
+    match setup::checksum(image, Chunk::Eight) {
+        ChecksumAnswer::Is(c) => c.stored == c.computed,
+        ChecksumAnswer::No(_) => false,
+    }
+}
+
+fn alias(image: &[u8]) -> u8 {
+    let cut = ends_before(image, ALIAS_END);
     match sii::station_alias(image, Chunk::Eight) {
-        AliasAnswer::Alias(n) => [0, n as u64],
-        AliasAnswer::No(x) => [no(x), 0],
+        AliasAnswer::Alias(n) => record(cut, 0, b"dalias", &[n as u64]),
+        AliasAnswer::No(x) => refused(cut, b"alias", no(x)),
     }
 }
 
-fn pdi(image: &[u8]) -> [u64; 5] {
+fn pdi(image: &[u8]) -> u8 {
+    let cut = ends_before(image, PDI_END);
     match setup::pdi_control(image, Chunk::Eight) {
-        PdiAnswer::Is(p) => [
+        PdiAnswer::Is(p) => record(
+            cut,
             0,
-            p.pdi_control as u64,
-            p.pdi_configuration as u64,
-            p.sync_impulse_length as u64,
-            p.pdi_configuration2 as u64,
-        ],
-        PdiAnswer::No(x) => [no(x), 0, 0, 0, 0],
+            b"4pdi control,4pdi configuration,dsync impulse length,4pdi configuration 2",
+            &pdi_row(p),
+        ),
+        PdiAnswer::No(x) => refused(cut, b"pdi control", no(x)),
     }
 }
 
-fn identity(image: &[u8]) -> [u64; 5] {
+fn identity(image: &[u8]) -> u8 {
+    let cut = ends_before(image, IDENTITY_END);
     match sii::identity(image, Chunk::Eight) {
-        IdentityAnswer::Is(i) => [
+        IdentityAnswer::Is(i) => record(
+            cut,
             0,
-            i.vendor_id as u64,
-            i.product_id as u64,
-            i.revision as u64,
-            i.serial as u64,
-        ],
-        IdentityAnswer::No(x) => [no(x), 0, 0, 0, 0],
+            b"8vendor,8product,8revision,8serial",
+            &identity_row(i),
+        ),
+        IdentityAnswer::No(x) => refused(cut, b"identity", no(x)),
     }
 }
 
-fn bootstrap(image: &[u8]) -> [u64; 5] {
+fn bootstrap(image: &[u8]) -> u8 {
+    let cut = ends_before(image, BOOTSTRAP_END);
     match setup::bootstrap_mailbox(image, Chunk::Eight) {
-        BootstrapAnswer::Is(m) => [
+        BootstrapAnswer::Is(m) => record(
+            cut,
             0,
-            m.subdevice_receive_offset as u64,
-            m.subdevice_receive_size as u64,
-            m.subdevice_send_offset as u64,
-            m.subdevice_send_size as u64,
-        ],
-        BootstrapAnswer::No(x) => [no(x), 0, 0, 0, 0],
+            b"4bootstrap receive offset,\
+              dbootstrap receive size,\
+              4bootstrap send offset,\
+              dbootstrap send size",
+            &bootstrap_row(m),
+        ),
+        BootstrapAnswer::No(x) => refused(cut, b"bootstrap", no(x)),
     }
 }
 
-fn mailbox(image: &[u8]) -> [u64; 6] {
+fn mailbox(image: &[u8]) -> u8 {
+    let cut = ends_before(image, MAILBOX_END);
     match sii::mailbox_config(image, Chunk::Eight) {
-        MailboxAnswer::Is(m) => [
+        MailboxAnswer::Is(m) => record(
+            cut,
             0,
-            m.subdevice_receive_offset as u64,
-            m.subdevice_receive_size as u64,
-            m.subdevice_send_offset as u64,
-            m.subdevice_send_size as u64,
-            m.supported_protocols as u64,
-        ],
-        MailboxAnswer::No(x) => [no(x), 0, 0, 0, 0, 0],
+            b"4mailbox receive offset,\
+              dmailbox receive size,\
+              4mailbox send offset,\
+              dmailbox send size,\
+              fmailbox protocols=AoE EoE CoE FoE SoE VoE",
+            &mailbox_row(m),
+        ),
+        MailboxAnswer::No(x) => refused(cut, b"mailbox", no(x)),
     }
 }
 
-fn general(image: &[u8]) -> [u64; 15] {
+fn general(image: &[u8], cut: bool) -> u8 {
     match sii::general(image, Chunk::Eight) {
-        GeneralAnswer::Is(g) => [
+        GeneralAnswer::Is(g) => record(
+            cut,
             0,
-            g.group_string_idx as u64,
-            g.image_string_idx as u64,
-            g.order_string_idx as u64,
-            g.name_string_idx as u64,
-            g.coe_details as u64,
-            g.foe_enabled as u64,
-            g.eoe_enabled as u64,
-            wide8(g.flags),
-            wide16(g.ebus_current),
-            wide8(g.port0),
-            wide8(g.port1),
-            wide8(g.port2),
-            wide8(g.port3),
-            wide16(g.physical_memory_addr),
-        ],
-        GeneralAnswer::No(x) => [no(x), 0, 0, 0, 0, 0, 0, 0, 0, 0, 0, 0, 0, 0, 0],
+            b"dgeneral group string,\
+              dgeneral image string,\
+              dgeneral order string,\
+              dgeneral name string,\
+              fgeneral coe details=sdo sdo-info pdo-assign pdo-config startup-upload complete-access,\
+              ngeneral foe=no yes,\
+              ngeneral eoe=no yes,\
+              fgeneral flags=enable-safe-op enable-not-lrw mailbox-dll ident-al-status ident-phy-m,\
+              sgeneral ebus current,\
+              vgeneral port 0=Unused Mii Reserved Ebus FastHotConnect,\
+              vgeneral port 1=Unused Mii Reserved Ebus FastHotConnect,\
+              vgeneral port 2=Unused Mii Reserved Ebus FastHotConnect,\
+              vgeneral port 3=Unused Mii Reserved Ebus FastHotConnect,\
+              4general physical address",
+            &general_row(g),
+        ),
+        GeneralAnswer::No(x) => refused(cut, b"general", no(x)),
+    }
+}
+
+// Ports and address of General by ETG2010's places; ethercrab reads them two bytes before.
+fn physical(image: &[u8], cut: bool) -> u8 {
+    let ports = physical_ports(image, cut);
+    let address = physical_memory_address(image, cut);
+    worse(ports, address)
+}
+
+fn physical_ports(image: &[u8], cut: bool) -> u8 {
+    match sii::physical_ports(image, Chunk::Eight) {
+        PortsAnswer::Is(p) => record(
+            cut,
+            0,
+            b"vphysical port 0=Unused Mii Reserved Ebus FastHotConnect,\
+              vphysical port 1=Unused Mii Reserved Ebus FastHotConnect,\
+              vphysical port 2=Unused Mii Reserved Ebus FastHotConnect,\
+              vphysical port 3=Unused Mii Reserved Ebus FastHotConnect",
+            &ports_row(p),
+        ),
+        PortsAnswer::No(x) => refused(cut, b"physical ports", no(x)),
+    }
+}
+
+fn physical_memory_address(image: &[u8], cut: bool) -> u8 {
+    match sii::physical_memory_address(image, Chunk::Eight) {
+        WordAnswer::Word(n) => record(cut, 0, b"4physical memory address", &[n as u64]),
+        WordAnswer::No(x) => refused(cut, b"physical memory address", no(x)),
     }
 }

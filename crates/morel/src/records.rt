@@ -1,85 +1,95 @@
 // The lists of an image: sync managers, FMMUs, PDOs, modes of the distributed clock. A list's first line has its count, or the refusal that it gives.
+use crate::cut::category_cut;
+use crate::status::worse;
+use crate::text::decimal;
+use crate::text::end;
+use crate::text::label;
 use crate::text::no;
+use crate::text::of_cut;
 use crate::text::record;
+use crate::text::refused;
 use crate::text::wide8;
-use clock::DistributedClock;
 use clock::DistributedClocks;
+use clock::clock_row;
 use eeprom::Chunk;
 use lists::FmmuList;
 use lists::ListAnswer;
-use lists::Pdo;
 use lists::PdoList;
-use lists::SyncManager;
 use lists::SyncManagers;
+use lists::pdo_row;
+use lists::sync_manager_row;
 use wire::lesser;
 
-pub(crate) fn print(image: &[u8]) {
-    sync_managers(lists::sync_managers(image, Chunk::Eight));
-    print_fmmus(image);
-    print_pdos(image);
-    clocks(clock::distributed_clocks(image, Chunk::Eight));
+pub(crate) fn print(image: &[u8]) -> u8 {
+    let managers = sync_managers(
+        category_cut(image, category::SYNC_MANAGER),
+        lists::sync_managers(image, Chunk::Eight),
+    );
+    let fmmus = print_fmmus(image);
+    let pdos = print_pdos(image);
+    let clocks = clocks(
+        category_cut(image, category::DISTRIBUTED_CLOCK),
+        clock::distributed_clocks(image, Chunk::Eight),
+    );
+    worse(worse(managers, fmmus), worse(pdos, clocks))
 }
 
-fn print_fmmus(image: &[u8]) {
-    fmmus(
-        b"fmmus,dfmmus",
-        b",vfmmu # usage=Unused Outputs Inputs SyncManagerStatus",
+fn print_fmmus(image: &[u8]) -> u8 {
+    let usages = fmmus(
+        category_cut(image, category::FMMU),
+        b"fmmus",
+        b"vfmmu # usage=Unused Outputs Inputs SyncManagerStatus",
         lists::fmmus(image, Chunk::Eight),
     );
-    fmmus(
-        b"extended fmmus,dextended fmmus",
-        b",dfmmu # sync manager",
+    let mappings = fmmus(
+        category_cut(image, category::FMMU_EXTENDED),
+        b"extended fmmus",
+        b"dfmmu # sync manager",
         lists::fmmu_mappings(image, Chunk::Eight),
     );
+    worse(usages, mappings)
 }
 
-fn print_pdos(image: &[u8]) {
-    pdos(
-        b"tx pdos,dtx pdos",
-        b",4tx pdo # index,dtx pdo # entries,dtx pdo # sync manager,dtx pdo # bits",
+fn print_pdos(image: &[u8]) -> u8 {
+    let sent = pdos(
+        category_cut(image, category::TX_PDO),
+        b"tx pdos",
+        b"4tx pdo # index,dtx pdo # entries,dtx pdo # sync manager,dtx pdo # bits",
         lists::maindevice_read_pdos(image, Chunk::Eight),
     );
-    pdos(
-        b"rx pdos,drx pdos",
-        b",4rx pdo # index,drx pdo # entries,drx pdo # sync manager,drx pdo # bits",
+    let received = pdos(
+        category_cut(image, category::RX_PDO),
+        b"rx pdos",
+        b"4rx pdo # index,drx pdo # entries,drx pdo # sync manager,drx pdo # bits",
         lists::maindevice_write_pdos(image, Chunk::Eight),
     );
+    worse(sent, received)
 }
 
-// The row of a list's first line.
-fn listed(answer: ListAnswer, n: usize) -> [u64; 2] {
+// A list's first line.
+fn listed(cut: bool, name: &[u8], answer: ListAnswer, n: usize) -> u8 {
     match answer {
-        ListAnswer::Listed => [0, n as u64],
-        ListAnswer::No(x) => [no(x), 0],
+        ListAnswer::Listed => {
+            label(0, name);
+            decimal(n as u64);
+            end(cut);
+            of_cut(cut)
+        }
+        ListAnswer::No(x) => refused(cut, name, no(x)),
     }
 }
 
-fn sync_manager(s: SyncManager) -> [u64; 10] {
-    [
-        0,
-        s.start_addr as u64,
-        s.length_bytes as u64,
-        s.operation_mode as u64,
-        s.direction as u64,
-        s.ecat_event_enable as u64,
-        s.dls_user_event_enable as u64,
-        s.watchdog_enable as u64,
-        s.enable as u64,
-        s.usage_type as u64,
-    ]
-}
-
-fn sync_managers(l: SyncManagers) {
+fn sync_managers(cut: bool, l: SyncManagers) -> u8 {
     let answer = l.answer;
     let items = l.items;
     let n = lesser(l.count, 8);
-    record(0, b"sync managers,dsync managers", &listed(answer, n));
+    let status = listed(cut, b"sync managers", answer, n);
     let mut i = 0;
     while i < n {
         record(
+            cut,
             i,
-            b",\
-              4sync manager # start,\
+            b"4sync manager # start,\
               dsync manager # bytes,\
               vsync manager # mode=Normal - Mailbox,\
               vsync manager # direction=MasterRead MasterWrite,\
@@ -88,72 +98,51 @@ fn sync_managers(l: SyncManagers) {
               nsync manager # watchdog=no yes,\
               fsync manager # enable=enable is-fixed is-virtual op-only,\
               vsync manager # usage=Unknown MailboxWrite MailboxRead ProcessDataWrite ProcessDataRead",
-            &sync_manager(items[i]),
+            &sync_manager_row(items[i]),
         );
         i += 1;
     }
+    status
 }
 
 // A list of FMMUs has one number for each.
-fn fmmus(head: &[u8], table: &[u8], l: FmmuList) {
+fn fmmus(cut: bool, name: &[u8], table: &[u8], l: FmmuList) -> u8 {
     let answer = l.answer;
     let items = l.items;
     let n = lesser(l.count, 16);
-    record(0, head, &listed(answer, n));
+    let status = listed(cut, name, answer, n);
     let mut i = 0;
     while i < n {
-        record(i, table, &[0, wide8(items[i])]);
+        record(cut, i, table, &[wide8(items[i])]);
         i += 1;
     }
+    status
 }
 
-fn pdo(p: Pdo) -> [u64; 5] {
-    [
-        0,
-        p.index as u64,
-        p.num_entries as u64,
-        p.sync_manager as u64,
-        p.bit_len as u64,
-    ]
-}
-
-fn pdos(head: &[u8], table: &[u8], l: PdoList) {
+fn pdos(cut: bool, name: &[u8], table: &[u8], l: PdoList) -> u8 {
     let answer = l.answer;
     let items = l.items;
     let n = lesser(l.count, 64);
-    record(0, head, &listed(answer, n));
+    let status = listed(cut, name, answer, n);
     let mut i = 0;
     while i < n {
-        record(i, table, &pdo(items[i]));
+        record(cut, i, table, &pdo_row(items[i]));
         i += 1;
     }
+    status
 }
 
-fn clock_mode(c: DistributedClock) -> [u64; 9] {
-    [
-        0,
-        c.cycle_time0 as u64,
-        c.shift_time0 as u64,
-        c.shift_time1 as u64,
-        c.sync1_cycle_factor as u64,
-        c.assign_activate as u64,
-        c.sync0_cycle_factor as u64,
-        c.name_string_idx as u64,
-        c.description_string_idx as u64,
-    ]
-}
-
-fn clocks(l: DistributedClocks) {
+fn clocks(cut: bool, l: DistributedClocks) -> u8 {
     let answer = l.answer;
     let items = l.items;
     let n = lesser(l.count, 8);
-    record(0, b"clock modes,dclock modes", &listed(answer, n));
+    let status = listed(cut, b"clock modes", answer, n);
     let mut i = 0;
     while i < n {
         record(
+            cut,
             i,
-            b",\
-              dclock mode # cycle time,\
+            b"dclock mode # cycle time,\
               dclock mode # shift time 0,\
               dclock mode # shift time 1,\
               sclock mode # sync1 factor,\
@@ -161,8 +150,9 @@ fn clocks(l: DistributedClocks) {
               sclock mode # sync0 factor,\
               dclock mode # name,\
               dclock mode # description",
-            &clock_mode(items[i]),
+            &clock_row(items[i]),
         );
         i += 1;
     }
+    status
 }

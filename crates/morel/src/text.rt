@@ -1,12 +1,35 @@
 // Lines to standard output: a label up to a fixed column, then what it says. A record is printed by a table of its fields.
+use crate::status::ANSWERED;
+use crate::status::UNUSABLE;
+use crate::status::WRONG;
 use libc::STDOUT_FILENO;
 use lines::word;
 use lines::word_end;
 use refusal::Refusal;
 use std::num::wrapping_add_usize;
 
+// Of a line that rests on no byte past the end of an image.
+pub(crate) const WHOLE: bool = false;
+
 pub(crate) fn say(text: &[u8]) {
     io::write_all(STDOUT_FILENO, text);
+}
+
+pub(crate) fn decimal(v: u64) {
+    io::print_decimal(STDOUT_FILENO, v);
+}
+
+// A line's end, after a mark where what the line says was read past the end of an image.
+pub(crate) fn end(cut: bool) {
+    if cut {
+        say(b" (cut)");
+    }
+    say(b"\n");
+}
+
+// The status of such a line.
+pub(crate) fn of_cut(cut: bool) -> u8 {
+    if cut { WRONG } else { ANSWERED }
 }
 
 // ---- places in a text
@@ -60,7 +83,13 @@ fn column(out: &[u8; 28]) {
 pub(crate) fn line(name: &[u8], text: &[u8]) {
     label(0, name);
     say(text);
-    say(b"\n");
+    end(WHOLE);
+}
+
+// A file or words that can't be used.
+pub(crate) fn error(text: &[u8]) -> u8 {
+    line(b"error", text);
+    UNUSABLE
 }
 
 // ---- what a label says
@@ -82,7 +111,7 @@ fn name(v: u64, names: &[u8]) {
 }
 
 fn number_and_name(v: u64, names: &[u8]) {
-    io::print_decimal(STDOUT_FILENO, v);
+    decimal(v);
     say(b" ");
     name(v, names);
 }
@@ -113,19 +142,17 @@ fn flags(v: u64, names: &[u8]) {
 // A number of 16 bits with a sign.
 fn signed(v: u64) {
     if v < 32768 {
-        io::print_decimal(STDOUT_FILENO, v);
+        decimal(v);
     } else if v < 65536 {
         say(b"-");
-        io::print_decimal(STDOUT_FILENO, 65536 - v);
+        decimal(65536 - v);
     }
 }
 
 // A number in the way of its kind.
 fn value(kind: u8, v: u64, names: &[u8]) {
     match kind {
-        b'd' => {
-            io::print_decimal(STDOUT_FILENO, v);
-        }
+        b'd' => decimal(v),
         b's' => signed(v),
         b'n' => name(v, names),
         b'v' => number_and_name(v, names),
@@ -134,14 +161,13 @@ fn value(kind: u8, v: u64, names: &[u8]) {
     }
 }
 
-// A text of any bytes, those that can't be printed and the backslash as \xNN, so that it stays on its line and says one text; and the line's end.
+// A text of any bytes, those that can't be printed and the backslash as \xNN, so that it stays on its line and says one text.
 pub(crate) fn plain(text: &[u8]) {
     let mut i = 0;
     while i < text.len() {
         glyph(text[i]);
         i += 1;
     }
-    say(b"\n");
 }
 
 fn is_plain(b: u8) -> bool {
@@ -181,55 +207,51 @@ pub(crate) fn wide16(x: u16) -> u64 {
     x as u64
 }
 
-// What a record's row has at its front: the number of a refusal, 0 where there is none.
 pub(crate) fn no(x: Refusal) -> u64 {
     refusal::number(x) as u64
 }
 
-// A refusal's number and name.
-pub(crate) fn refusal(number: u64) {
+// A refusal's number and name, and the line's end.
+pub(crate) fn refusal(cut: bool, number: u64) -> u8 {
     say(b"refused ");
     number_and_name(
         number,
         b"- Address Overrun NoCategory StringTooLong Decode Capacity NotWritable TooLong NoPort \
           BadPort Sum BadFrame NoRoom BadArgument",
     );
-    say(b"\n");
+    end(cut);
+    WRONG
 }
 
 // A refusal where fields should stand.
-pub(crate) fn refused(name: &[u8], number: u64) {
+pub(crate) fn refused(cut: bool, name: &[u8], number: u64) -> u8 {
     label(0, name);
-    refusal(number);
+    refusal(cut, number)
 }
 
-// A field by its text in the table: its kind, its label and, behind `=`, the names of its values.
-fn field(i: usize, text: &[u8], v: u64) {
-    let end = find(text, 0, b'=');
-    label(i, back(front(text, end), 1));
+// A field by its text in the table: its kind, its label and, after `=`, the names of its values.
+fn field(cut: bool, i: usize, text: &[u8], v: u64) {
+    let at = find(text, 0, b'=');
+    label(i, back(front(text, at), 1));
     value(
         wire::byte_at(text, 0),
         v,
-        back(text, wrapping_add_usize(end, 1)),
+        back(text, wrapping_add_usize(at, 1)),
     );
-    say(b"\n");
+    end(cut);
 }
 
 // A record's row, one field a line, i in the place of a `#` of their labels. The table has a text for each number of the row, and a comma between
-// two. The first number is that of a refusal; if it is not 0, the first text is the refusal's label, and that is all. The texts of the fields begin
-// with their kind: d for decimal, s with a sign, 2, 4 or 8 for so many hex digits, n for a name alone, v for a number and its name, f for flags.
-pub(crate) fn record(i: usize, table: &[u8], row: &[u64]) {
+// two. The texts begin with their kind: d for decimal, s with a sign, 2, 4 or 8 for so many hex digits, n for a name alone, v for a number and its
+// name, f for flags.
+pub(crate) fn record(cut: bool, i: usize, table: &[u8], row: &[u64]) -> u8 {
     let mut at = 0;
     let mut k = 0;
     while k < row.len() {
-        let end = find(table, at, b',');
-        let text = back(front(table, end), at);
-        if 0 < k {
-            field(i, text, row[k]);
-        } else if row[k] != 0 {
-            return refused(text, row[k]);
-        }
-        at = wrapping_add_usize(end, 1);
+        let stop = find(table, at, b',');
+        field(cut, i, back(front(table, stop), at), row[k]);
+        at = wrapping_add_usize(stop, 1);
         k += 1;
     }
+    of_cut(cut)
 }

@@ -1,8 +1,12 @@
 // The strings of an image: the device's name and description, and all strings of the category.
+use crate::cut::category_cut;
+use crate::cut::ends_before;
+use crate::status::worse;
+use crate::text::end;
 use crate::text::front;
 use crate::text::label;
-use crate::text::line;
 use crate::text::no;
+use crate::text::of_cut;
 use crate::text::plain;
 use crate::text::record;
 use crate::text::refusal;
@@ -10,6 +14,8 @@ use crate::text::refused;
 use crate::text::say;
 use category::Found;
 use eeprom::Chunk;
+use eeprom::Range;
+use std::num::wrapping_add_usize;
 use strings::StringAnswer;
 
 // Which string is asked for.
@@ -28,36 +34,93 @@ fn asked(image: &[u8], which: u8, i: u8, room: &mut [u8]) -> StringAnswer {
 }
 
 // A string's line, with i in the place of a `#` of its label.
-fn string(image: &[u8], which: u8, i: u8, name: &[u8]) {
+fn string(image: &[u8], cut: bool, which: u8, i: u8, name: &[u8]) -> u8 {
     let mut room = [0u8; 255];
     let r = asked(image, which, i, &mut room);
     label(i as usize, name);
     match r {
-        StringAnswer::Length(n) => plain(front(&room, n as usize)),
-        StringAnswer::Absent => say(b"absent\n"),
-        StringAnswer::No(x) => refusal(no(x)),
+        StringAnswer::Length(n) => found(cut, front(&room, n as usize)),
+        StringAnswer::Absent => absent(cut),
+        StringAnswer::No(x) => refusal(cut, no(x)),
     }
+}
+
+fn found(cut: bool, text: &[u8]) -> u8 {
+    plain(text);
+    end(cut);
+    of_cut(cut)
+}
+
+fn absent(cut: bool) -> u8 {
+    say(b"absent");
+    end(cut);
+    of_cut(cut)
 }
 
 // The strings up to the number that the category's first byte gives.
-fn all(image: &[u8], count: u8) {
-    record(0, b",dstrings", &[0, count as u64]);
+fn all(image: &[u8], cut: bool, count: u8) -> u8 {
+    let mut status = record(cut, 0, b"dstrings", &[count as u64]);
     let mut i: u8 = 0;
     while i < count {
         i += 1;
-        string(image, STRING, i, b"string #");
+        status = worse(status, string(image, cut, STRING, i, b"string #"));
+    }
+    status
+}
+
+// The category's first byte; an empty category has none, and no string.
+fn count(image: &[u8], g: Range) -> u8 {
+    if g.byte_pos == g.end {
+        0
+    } else {
+        eeprom::byte_of(image, Chunk::Eight, g.byte_pos as u32)
     }
 }
 
-pub(crate) fn print(image: &[u8]) {
-    string(image, NAME, 0, b"device name");
-    string(image, DESCRIPTION, 0, b"device description");
+fn category(image: &[u8], cut: bool) -> u8 {
     match category::category(image, Chunk::Eight, category::STRINGS) {
-        Found::At(g) => all(
-            image,
-            eeprom::byte_of(image, Chunk::Eight, g.byte_pos as u32),
-        ),
-        Found::Absent => line(b"strings", b"absent"),
-        Found::No(x) => refused(b"strings", no(x)),
+        Found::At(g) => all(image, cut, count(image, g)),
+        Found::Absent => {
+            label(0, b"strings");
+            absent(cut)
+        }
+        Found::No(x) => refused(cut, b"strings", no(x)),
     }
+}
+
+// Whether a string that is sought in an empty category is sought past the image's end: a count and a length are read after the category.
+fn sought_after(image: &[u8]) -> bool {
+    match category::category(image, Chunk::Eight, category::STRINGS) {
+        Found::At(g) => after(image, g),
+        Found::Absent => false,
+        Found::No(_) => false,
+    }
+}
+
+fn after(image: &[u8], g: Range) -> bool {
+    if g.byte_pos == g.end {
+        ends_before(image, wrapping_add_usize(g.end as usize, 2))
+    } else {
+        false
+    }
+}
+
+// Name and description rest on General too.
+fn named_cut(image: &[u8], general_cut: bool, cut: bool) -> bool {
+    if general_cut {
+        true
+    } else if cut {
+        true
+    } else {
+        sought_after(image)
+    }
+}
+
+pub(crate) fn print(image: &[u8], general_cut: bool) -> u8 {
+    let cut = category_cut(image, category::STRINGS);
+    let named = named_cut(image, general_cut, cut);
+    let name = string(image, named, NAME, 0, b"device name");
+    let description = string(image, named, DESCRIPTION, 0, b"device description");
+    let strings = category(image, cut);
+    worse(name, worse(description, strings))
 }

@@ -1,4 +1,4 @@
--- Document 01's frame from the bench is read as the two PDUs that were pushed into it: by computing.
+-- The frame of the bench (RULES, bench) is read as the two PDUs that were pushed into it: by computing.
 use Prim.Native.Nat.{ℕ}
 use mathlib.Core.Path.{_≡_, refl}
 use mathlib.Core.Bool.{true, false}

@@ -4,7 +4,7 @@ use Prim.Native.Nat.{ℕ, _+_, _/_, _%_, _≤_}
 use mathlib.Core.List.{List, _++_}
 use lib.ListN.{length, take, drop}
 use Rattle.wire.specs.Bytes.{byteAt, le16, le32}
-use Rattle.pdu.specs.Pdu.{indexAt, addressAt, flagsAt, irqAt, headerBytes, frameHeaderBytes, lengthPast, typeBit, Pdu, layout, AllFit}
+use Rattle.pdu.specs.Pdu.{indexAt, addressAt, flagsAt, irqAt, headerBytes, frameHeaderBytes, lengthPast, extraPast, typeBit, Pdu, layout, AllFit}
 use Rattle.pdu.specs.Read.{lengthOf}
 
 -- s is a frame of these PDUs; bit 11 of the header isn't looked at
@@ -25,7 +25,7 @@ pduFrom s i =
       command = byteAt s i;
       index = byteAt s (i + indexAt);
       address = le32 s (i + addressAt);
-      extra = flags / lengthPast % 16;
+      extra = flags / lengthPast % extraPast;
       irq = le16 s (i + irqAt);
       payload = take n (drop (i + headerBytes) s);
       counter = le16 s (i + (headerBytes + n));

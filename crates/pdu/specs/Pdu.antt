@@ -2,7 +2,7 @@
 use Prim.Native.Nat.{ℕ, _+_, _*_, _<_}
 use mathlib.Core.List.{List, [], _∷_, _++_}
 use lib.ListN.{length}
-use Rattle.wire.specs.Bytes.{bytes16, bytes32}
+use Rattle.wire.specs.Bytes.{wordPast, longPast, bytes16, bytes32}
 
 -- the bytes of a PDU's header; of a PDU over its payload: the header, and the working counter behind the payload; of a frame's header
 abbrev pub headerBytes : ℕ
@@ -47,6 +47,20 @@ moreBit = 32768
 abbrev pub typeBit : ℕ
 typeBit = 4096
 
+-- where more-follows stands in a header's bytes, and what it weighs there: bit 15 of the flags is bit 7 of their second byte
+abbrev pub moreAt : ℕ
+moreAt = 7
+
+abbrev pub moreInByte : ℕ
+moreInByte = 128
+
+-- the first number past the four bits between the length and more-follows, and what the highest of them weighs, which is 'circulating'
+abbrev pub extraPast : ℕ
+extraPast = 16
+
+abbrev pub circulatedInExtra : ℕ
+circulatedInExtra = 8
+
 pub record Pdu : Type 0 where
   pub command : ℕ
   pub index : ℕ
@@ -60,11 +74,11 @@ pub record Pdu : Type 0 where
 
 -- the fields that are packed lie in the bits that they have
 pub record Fits (p : Pdu) : Type 0 where
-  pub address-fits : p .address < 4294967296
-  pub extra-fits : p .extra < 16
-  pub irq-fits : p .irq < 65536
+  pub address-fits : p .address < longPast
+  pub extra-fits : p .extra < extraPast
+  pub irq-fits : p .irq < wordPast
   pub payload-fits : length (p .payload) < lengthPast
-  pub counter-fits : p .counter < 65536
+  pub counter-fits : p .counter < wordPast
 
 -- the 16 flag bits: length in 0 to 10, then those of `extra`, and more-follows, 0 or 1, in 15
 abbrev pub flagsOf : ℕ → ℕ → ℕ → ℕ

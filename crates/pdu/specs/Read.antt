@@ -7,7 +7,7 @@ use lib.Dec.{ltb, leb, eqb}
 use Rattle.refusal.specs.Said.{pick}
 use Rattle.wire.specs.Bytes.{byteAt, le16, le32}
 use Rattle.pdu.specs.declared.PduFields.{PduFields}
-use Rattle.pdu.specs.Pdu.{indexAt, addressAt, flagsAt, irqAt, headerBytes, pduOverhead, frameHeaderBytes, lengthPast, circulatedBit, moreBit, typeBit, Pdu, follows}
+use Rattle.pdu.specs.Pdu.{indexAt, addressAt, flagsAt, irqAt, headerBytes, pduOverhead, frameHeaderBytes, lengthPast, circulatedBit, circulatedInExtra, moreBit, typeBit, Pdu, follows}
 
 -- the length in flags, or in a frame's header
 abbrev pub lengthOf : ℕ → ℕ
@@ -99,7 +99,7 @@ shown i p m =
       index = p .index;
       address = p .address;
       len = length (p .payload);
-      circulated = eqb (p .extra / 8) 1;
+      circulated = eqb (p .extra / circulatedInExtra) 1;
       «more_follows» = eqb m 1;
       irq = p .irq;
       place = i + headerBytes;

@@ -1,3 +1,2 @@
-// Pinned down: of every public call of every crate, any two results that its contract allows are equal; and no answer depends on the width of a chunk.
-// It has no code. specs/Table.antt has a row a call, in plain equations; specs/Contracts.antt ties each row to the call's own contract; specs/Whole.antt says the same
-// of the contracts themselves; specs/Widths.antt has a row for each call that takes a chunk.
+// Pinned down: of every public call of every crate, any two results that its contract allows are equal, whatever the width of a chunk (specs/Whole.antt, a row a call);
+// and what a contract comes to, where a crate says it in one statement (specs/Demands.antt, a row a statement). Both are over the calls' own contracts. It has no code.

@@ -1,4 +1,4 @@
--- Document 01's bench cases on ports that are not marked P (the crate `bench` has those), and what DECISIONS says of a record that no call made: each is computed.
+-- The bench cases on ports that are not marked P (RULES, bench; the crate `bench` has the others), and what DECISIONS says of a record that no call made: each is computed.
 use Prim.Native.Nat.{ℕ}
 use native.Mathlib.Nat.{le-refl}
 use mathlib.Core.Path.{_≡_, refl, ap, _∙_}
@@ -11,8 +11,8 @@ use Rattle.ports.specs.declared.Link.the-variants.{To}
 use Rattle.ports.specs.declared.Ports.{Ports}
 use Rattle.ports.specs.Answers.{entrySaid}
 use Rattle.ports.specs.Ports.{noPort, those, firstThat, folded, earliest, activePorts, entry, fresh, timesSet, linkSet}
-use Rattle.ports.specs.Delays.{largest, smallest, spread, delaySaid, activeBetween, timeTo, timeToSaid, gap, gaps, sumSaid, intermediateSaid}
-use Rattle.ports.specs.Assigning.{repeated, assignable, assignedOf, assignedSaid}
+use Rattle.ports.specs.Delays.{largest, smallest, breadth, delaySaid, activeBetween, timeTo, timeToSaid, gap, gaps, sumSaid, intermediateSaid}
+use Rattle.ports.specs.Assigning.{repeated, assignable, assignedSaid, assignedPorts}
 use Rattle.ports.specs.Display.{wordOf, words, textOf}
 
 -- active 0 and 3, equal times
@@ -26,7 +26,7 @@ stray = record { 0 = noPort ∷ record { active = true; «dc_receive_time» = 5;
 
 -- the record after a device is assigned
 abbrev after : Ports → ℕ → Ports
-after p d = assignedOf p d .ports
+after p d = assignedPorts p d
 
 pub record Bench (t : ℕ) : Type 0 where
   -- all four active, 100 200 300 400 by place: intermediate to port 1
@@ -49,11 +49,11 @@ module _ (t : ℕ) where
 
   -- the two links, made
   after-one : after (two t) 1 ≡ linkSet (two t) 1 1
-  unfolding two those firstThat folded earliest activePorts entry linkSet repeated assignable assignedOf
+  unfolding two those firstThat folded earliest activePorts entry linkSet repeated assignable assignedSaid assignedPorts
   after-one = rw (same, after)
 
   after-two : after (linkSet (two t) 1 1) 2 ≡ linkSet (linkSet (two t) 1 1) 0 2
-  unfolding two those firstThat folded earliest activePorts entry linkSet repeated assignable assignedOf
+  unfolding two those firstThat folded earliest activePorts entry linkSet repeated assignable assignedSaid assignedPorts
   after-two = rw (same, after)
 
   second : assignedSaid (linkSet (two t) 1 1) 2 ≡ gives (0 ∷ [])
@@ -65,7 +65,7 @@ module _ (t : ℕ) where
   third = rw same
 
   pub bench : Bench t
-  unfolding two those firstThat folded earliest activePorts entry fresh timesSet linkSet largest smallest spread delaySaid activeBetween timeTo timeToSaid gap gaps sumSaid intermediateSaid repeated assignable assignedSaid wordOf words textOf stray entrySaid
+  unfolding two those firstThat folded earliest activePorts entry fresh timesSet linkSet largest smallest breadth delaySaid activeBetween timeTo timeToSaid gap gaps sumSaid intermediateSaid repeated assignable assignedSaid wordOf words textOf stray entrySaid
   bench =
       record {
         four-between = refl;

@@ -11,28 +11,28 @@ use borrow.Author.Tests.{lt-ltb, ltb-true, ltb-false, leb-true}
 use Rattle.refusal.specs.Said.{pick}
 use Rattle.ports.specs.declared.Ports.{Ports}
 use Rattle.ports.specs.declared.Port.{Port}
-use Rattle.ports.specs.Ports.{numberAt, placeOf, isFree, places, nowhere, activeAt, timeAt, linkedAt, those, firstThat, folded, taking, lastOf, sooner, earliest, activePorts, entry, only}
-use Rattle.ports.specs.Delays.{largest, smallest, spread, total, between, activeBetween, timeTo}
+use Rattle.ports.specs.Ports.{numberAt, placeOf, isFree, places, portCount, nowhere, activeAt, timeAt, linkedAt, those, firstThat, folded, taking, lastOf, sooner, earliest, activePorts, entry, only}
+use Rattle.ports.specs.Delays.{largest, smallest, breadth, total, between, activeBetween, timeTo}
 
 -- ---- a port
 
 -- what holds at each of the four places
-pub at-each : (P : ℕ → Type 0) → P 0 → P 1 → P 2 → P 3 → (k : ℕ) → k < 4 → P k
+pub at-each : (P : ℕ → Type 0) → P 0 → P 1 → P 2 → P 3 → (k : ℕ) → k < nowhere → P k
 at-each P a b c d zero h = a
 at-each P a b c d (suc zero) h = b
 at-each P a b c d (suc (suc zero)) h = c
 at-each P a b c d (suc (suc (suc zero))) h = d
 at-each P a b c d (suc (suc (suc (suc k)))) h = absurd (let z : ⊥ = omega arith in z)
 
-pub place-low : (n : ℕ) → n < 4 → placeOf n < 4
-place-low = at-each (λ (n : ℕ). placeOf n < 4) (leb-true 1 4 refl) (leb-true 3 4 refl) (leb-true 4 4 refl) (leb-true 2 4 refl)
+pub place-low : (n : ℕ) → n < portCount → placeOf n < nowhere
+place-low = at-each (λ (n : ℕ). placeOf n < nowhere) (leb-true 1 nowhere refl) (leb-true 3 nowhere refl) (leb-true 4 nowhere refl) (leb-true 2 nowhere refl)
 
 -- the place of the port at a place
-pub place-number : (k : ℕ) → k < 4 → placeOf (numberAt k) ≡ k
+pub place-number : (k : ℕ) → k < nowhere → placeOf (numberAt k) ≡ k
 place-number = at-each (λ (k : ℕ). placeOf (numberAt k) ≡ k) refl refl refl refl
 
-pub number-low : (k : ℕ) → k < 4 → numberAt k < 4
-number-low = at-each (λ (k : ℕ). numberAt k < 4) (leb-true 1 4 refl) (leb-true 4 4 refl) (leb-true 2 4 refl) (leb-true 3 4 refl)
+pub number-low : (k : ℕ) → k < nowhere → numberAt k < portCount
+number-low = at-each (λ (k : ℕ). numberAt k < portCount) (leb-true 1 nowhere refl) (leb-true 4 nowhere refl) (leb-true 2 nowhere refl) (leb-true 3 nowhere refl)
 
 pub active-is : {q r : Port} {b : Bool} → q ≡ r → q .active ≡ b → r .active ≡ b
 active-is e h = rw e at h
@@ -166,7 +166,7 @@ module _ (p : Ports) where
 
   pub only-total : (e k : ℕ) → e ≡ entry p → total (only (between e k) p) ≡ timeTo p k
   unfolding total timeTo
-  only-total e k q = rw (← q, only-between e k) (ap spread (between-times e k))
+  only-total e k q = rw (← q, only-between e k) (ap breadth (between-times e k))
 
 -- ---- the first with the smallest time
 
@@ -228,16 +228,16 @@ module _ (t : ℕ → ℕ) where
 
 module _ (p : Ports) (e : ℕ) (q : e ≡ entry p) where
   pub total-is : e < nowhere → largest (map (timeAt p) (activePorts p)) - timeAt p e ≡ total p
-  unfolding total spread entry
+  unfolding total breadth entry
   total-is h = rw (q, earliest-least (timeAt p) (activePorts p) (low-active p) (let z : entry p < nowhere = omega arith in z))
 
   pub total-none : nowhere ≤ e → 0 ≡ total p
-  unfolding total spread entry largest smallest folded
+  unfolding total breadth entry largest smallest folded
   total-none h = rw (earliest-none (timeAt p) (activePorts p) (low-active p) (let z : nowhere ≤ entry p = omega arith in z))
 
 -- the total is at most the largest time of an active port
 pub total-most : (p : Ports) (most : ℕ) → ((k : ℕ) → k < nowhere → activeAt p k ≡ true → timeAt p k ≤ most) → total p ≤ most
-unfolding total spread largest folded
+unfolding total breadth largest folded
 total-most p most h = omega (arith, run 0 (activePorts p) (omega arith) (all-active (λ (k : ℕ). timeAt p k ≤ most) p h))
   where
     run : (x : ℕ) (ks : List ℕ) → x ≤ most → All (λ (k : ℕ). timeAt p k ≤ most) ks → folded max x (map (timeAt p) ks) ≤ most

@@ -1,6 +1,6 @@
 -- What assigning comes to: the port that it takes was active and unlinked, has the link afterwards, and nothing else of the record changes.
--- The assigning rule is opened in assignable-open alone.
-use Prim.Native.Nat.{ℕ, zero, suc, _+_, _<_}
+-- Here the assigning rule is opened in assignable-open alone; the search of the code opens it in Search.
+use Prim.Native.Nat.{ℕ, zero, suc, _+_, _≤_, _<_}
 use native.Mathlib.Omega.{arith}
 use mathlib.Core.Path.{_≡_, refl, ap, subst, _∙_}
 use mathlib.Core.Logic.{_≢_}
@@ -9,16 +9,12 @@ use mathlib.Core.List.{List, [], _∷_, _++_}
 use lib.Dec.{ltb, eqb}
 use lib.ListN.{length, take, drop}
 use lib.Seq.{getD-set-same, getD-set-other}
-use borrow.Author.Tests.{ltb-true, eqb-true, eqb-false}
-use Rattle.refusal.specs.Said.{pick, gives, absent, refuses}
-use Rattle.refusal.specs.declared.Refusal.the-variants.{NoPort, BadArgument}
+use borrow.Author.Tests.{lt-ltb, le-ltb, eq-eqb, ne-eqb, ltb-true, ltb-false, eqb-true, eqb-false}
+use Rattle.refusal.specs.Said.{Said, pick, gives, absent, refuses}
 use Rattle.ports.specs.declared.Port.{Port}
 use Rattle.ports.specs.declared.Ports.{Ports}
-use Rattle.ports.specs.declared.Assigned.{Assigned}
-use Rattle.ports.specs.declared.PortAnswer.the-variants as port
-use Rattle.ports.specs.Ports.{nowhere, numberAt, placeOf, noPort, portAt, activeAt, timeAt, unlinkedAt, firstThat, folded, activePorts, entry, linked, linkSet}
-use Rattle.ports.specs.Answers.{saidPort}
-use Rattle.ports.specs.Assigning.{repeated, assignable, unchanged, assignedOf, assignedSaid}
+use Rattle.ports.specs.Ports.{portCount, nowhere, numberAt, placeOf, noPort, portAt, activeAt, timeAt, unlinkedAt, firstThat, folded, activePorts, entry, linked, linkSet}
+use Rattle.ports.specs.Assigning.{repeated, rounds, lookMost, assignable, assignedSaid, linkedAs, assignedPorts}
 use Rattle.ports.specs.Meaning.{Took}
 use Rattle.ports.proofs.Laws.{All, all-active, entry-steps, number-low, place-number}
 
@@ -61,10 +57,10 @@ module _ (p : Ports) where
   unfolding assignable
   assignable-open h =
       let P : ℕ → Type 0 = (λ (k : ℕ). activeAt p k ≡ true) in
-      first-passes P (unlinkedAt p) (take 4 (drop (entry p + 1) (repeated 8 (activePorts p))))
-      (all-take P 4 (drop (entry p + 1) (repeated 8 (activePorts p)))
-      (all-drop P (entry p + 1) (repeated 8 (activePorts p))
-      (all-repeated P 8 (activePorts p) (all-active P p (λ (k : ℕ) (i : k < nowhere) (a : activeAt p k ≡ true). a)))))
+      first-passes P (unlinkedAt p) (take lookMost (drop (entry p + 1) (repeated rounds (activePorts p))))
+      (all-take P lookMost (drop (entry p + 1) (repeated rounds (activePorts p)))
+      (all-drop P (entry p + 1) (repeated rounds (activePorts p))
+      (all-repeated P rounds (activePorts p) (all-active P p (λ (k : ℕ) (i : k < nowhere) (a : activeAt p k ≡ true). a)))))
       h
 
 -- ---- a link
@@ -100,38 +96,66 @@ module _ (p : Ports) (k d : ℕ) (h : k < length (p .0)) where
 
 -- ---- assigning
 
-module _ (p : Ports) (d : ℕ) where
-  -- the answer and the record, by the three tests
-  abbrev chosen : Bool → Bool → Bool → Assigned
-  chosen x y z =
-      pick x (unchanged p (port.No BadArgument))
-      (pick y
-      (pick z (record { answer = port.At (numberAt (assignable p)); ports = linkSet p (assignable p) d }) (unchanged p port.Absent))
-      (unchanged p (port.No NoPort)))
+-- an answer, and the record after it, are those of assigning device d
+abbrev pub Assigns : Ports → ℕ → Said → Ports → Type 0
+Assigns p d s q = (s ≡ assignedSaid p d) × (q ≡ assignedPorts p d)
 
-  -- what the answer says
-  pub assigned-said : saidPort (assignedOf p d .answer) ≡ assignedSaid p d
-  unfolding assignedOf assignedSaid
-  assigned-said = go (eqb d 0) (ltb (entry p) nowhere) (ltb (assignable p) nowhere)
+module _ (p : Ports) (d : ℕ) where
+  -- what is said, and the record that follows from it
+  assigns : (s : Said) → s ≡ assignedSaid p d → Assigns p d s (linkedAs p d s)
+  unfolding assignedPorts
+  assigns s e = (e, ap (linkedAs p d) e)
+
+  -- device 0 is refused
+  pub assigns-zero : d ≡ 0 → Assigns p d (refuses 14 []) p
+  unfolding assignedSaid
+  assigns-zero z = assigns (refuses 14 []) go
     where
-      go : (x y z : Bool) → saidPort (chosen x y z .answer) ≡ pick x (refuses 14 []) (pick y (pick z (gives (numberAt (assignable p) ∷ [])) absent) (refuses 9 []))
-      go true y z = refl
-      go false false z = refl
-      go false true true = refl
-      go false true false = refl
+      go : refuses 14 [] ≡ assignedSaid p d
+      go = rw (eq-eqb d 0 z)
+
+  module _ (some : d ≢ 0) where
+    -- .. and so are ports of which none is active
+    pub assigns-none : nowhere ≤ entry p → Assigns p d (refuses 9 []) p
+    unfolding assignedSaid
+    assigns-none e = assigns (refuses 9 []) go
+      where
+        go : refuses 9 [] ≡ assignedSaid p d
+        go = rw (ne-eqb d 0 some, le-ltb (entry p) nowhere e)
+
+    module _ (e : entry p < nowhere) where
+      -- the rule takes no port
+      pub assigns-absent : nowhere ≤ assignable p → Assigns p d absent p
+      unfolding assignedSaid
+      assigns-absent h = assigns absent go
+        where
+          go : absent ≡ assignedSaid p d
+          go = rw (ne-eqb d 0 some, lt-ltb (entry p) nowhere e, le-ltb (assignable p) nowhere h)
+
+      -- the rule takes this port
+      pub assigns-port : assignable p < nowhere → Assigns p d (gives (numberAt (assignable p) ∷ [])) (linkSet p (assignable p) d)
+      unfolding assignedSaid
+      assigns-port h = rw (place-number (assignable p) h) at (assigns (gives (numberAt (assignable p) ∷ [])) go)
+        where
+          go : gives (numberAt (assignable p) ∷ []) ≡ assignedSaid p d
+          go = rw (ne-eqb d 0 some, lt-ltb (entry p) nowhere e, lt-ltb (assignable p) nowhere h)
+
+  -- what is said, by the three tests
+  abbrev chosen : Bool → Bool → Bool → Said
+  chosen x y z = pick x (refuses 14 []) (pick y (pick z (gives (numberAt (assignable p) ∷ [])) absent) (refuses 9 []))
 
   -- an answer other than a port leaves the record
-  pub assigned-stays : ((n : ℕ) → assignedOf p d .answer ≡ port.At n → ⊥) → assignedOf p d .ports ≡ p
-  unfolding assignedOf
+  pub assigned-stays : ((n : ℕ) → assignedSaid p d ≡ gives (n ∷ []) → ⊥) → assignedPorts p d ≡ p
+  unfolding assignedSaid assignedPorts
   assigned-stays = go (eqb d 0) (ltb (entry p) nowhere) (ltb (assignable p) nowhere)
     where
-      go : (x y z : Bool) → ((n : ℕ) → chosen x y z .answer ≡ port.At n → ⊥) → chosen x y z .ports ≡ p
+      go : (x y z : Bool) → ((n : ℕ) → chosen x y z ≡ gives (n ∷ []) → ⊥) → linkedAs p d (chosen x y z) ≡ p
       go true y z other = refl
       go false false z other = refl
       go false true true other = absurd (other (numberAt (assignable p)) refl)
       go false true false other = refl
 
-  took : length (p .0) ≡ 4 → assignable p < nowhere → Took p d (numberAt (assignable p)) (linkSet p (assignable p) d)
+  took : length (p .0) ≡ portCount → assignable p < nowhere → Took p d (numberAt (assignable p)) (linkSet p (assignable p) d)
   took full low =
       let k = assignable p in
       let inside : k < length (p .0) = omega arith in
@@ -145,15 +169,16 @@ module _ (p : Ports) (d : ℕ) where
         others = λ (j : ℕ) (n : j ≢ placeOf (numberAt k)). link-others p k d inside j (rw there at n);
       }
 
-  -- a port that is answered was taken
-  pub assigned-took : (n : ℕ) → length (p .0) ≡ 4 → assignedOf p d .answer ≡ port.At n → Took p d n (assignedOf p d .ports)
-  unfolding assignedOf
+  -- a port that is said was taken
+  pub assigned-took : (n : ℕ) → length (p .0) ≡ portCount → assignedSaid p d ≡ gives (n ∷ []) → Took p d n (assignedPorts p d)
+  unfolding assignedSaid assignedPorts
   assigned-took n full = go (eqb d 0) (ltb (entry p) nowhere) (ltb (assignable p) nowhere) refl
     where
-      go : (x y z : Bool) → ltb (assignable p) nowhere ≡ z → chosen x y z .answer ≡ port.At n → Took p d n (chosen x y z .ports)
+      go : (x y z : Bool) → ltb (assignable p) nowhere ≡ z → chosen x y z ≡ gives (n ∷ []) → Took p d n (linkedAs p d (chosen x y z))
       go true y z q e = absurd (let w : _≡_ {A = ℕ} 0 1 = cc in let r : ⊥ = omega arith in r)
       go false false z q e = absurd (let w : _≡_ {A = ℕ} 0 1 = cc in let r : ⊥ = omega arith in r)
       go false true false q e = absurd (let w : _≡_ {A = ℕ} 0 1 = cc in let r : ⊥ = omega arith in r)
       go false true true q e =
+          let low : assignable p < nowhere = ltb-true (assignable p) nowhere q in
           let m : numberAt (assignable p) ≡ n = cc in
-          subst (λ (i : ℕ). Took p d i (linkSet p (assignable p) d)) m (took full (ltb-true (assignable p) nowhere q))
+          rw (place-number (assignable p) low) (subst (λ (i : ℕ). Took p d i (linkSet p (assignable p) d)) m (took full low))

@@ -1,12 +1,14 @@
 -- An answer is known from what it says, by an inverse: so a promise on what is said allows one answer.
 use Prim.Native.Nat.{ℕ}
-use mathlib.Core.Path.{_≡_, refl, ap}
+use mathlib.Core.Path.{_≡_, refl, sym, ap, _∙_}
 use lib.Dec.{eqb}
 use lib.ListN.{getD}
 use Rattle.refusal.specs.Said.{Said, gives, absent, refuses, pick}
 use Rattle.refusal.specs.declared.Refusal.the-variants.{NoPort}
 use Rattle.refusal.proofs.Unique.{unique, refusalOf, back}
 use Rattle.ports.specs.Answers.{saidPort, saidTime, countOf, saidTopology, saidText}
+use Rattle.ports.specs.declared.Ports.{Ports}
+use Rattle.ports.specs.declared.Assigned.{Assigned}
 use Rattle.ports.specs.declared.Topology.{Topology}
 use Rattle.ports.specs.declared.Topology.the-variants.{LineEnd, Passthrough, Fork, Cross}
 use Rattle.ports.specs.declared.PortAnswer.{PortAnswer}
@@ -33,6 +35,16 @@ port-back (port.No x) = ap port.No (back x)
 
 pub port-unique : (a b : PortAnswer) (s : Said) → saidPort a ≡ s → saidPort b ≡ s → a ≡ b
 port-unique = unique saidPort portOf port-back
+
+-- .. and the record after it
+abbrev pub AssignedGives : Said → Ports → Assigned → Type 0
+AssignedGives s p r = (saidPort (r .answer) ≡ s) × (r .ports ≡ p)
+
+pub assigned-unique : (s : Said) (p : Ports) (x y : Assigned) → AssignedGives s p x → AssignedGives s p y → x ≡ y
+assigned-unique s p x y h i =
+    let e : x .answer ≡ y .answer = port-unique (x .answer) (y .answer) s (h .0) (i .0) in
+    let f : x .ports ≡ y .ports = h .1 ∙ sym (i .1) in
+    ap (λ (z : PortAnswer). record { answer = z; ports = x .ports }) e ∙ ap (λ (z : Ports). record { answer = y .answer; ports = z }) f
 
 -- ---- a time
 

@@ -1,4 +1,4 @@
--- What each answer says on paper: document 01's numbers and values for each of its cases. Definitions only.
+-- What each answer says on paper: number and values for each of its cases (RULES, refusals). Definitions only.
 use Prim.Native.Nat.{ℕ}
 use mathlib.Core.List.{[], _∷_}
 use lib.ListN.{length}

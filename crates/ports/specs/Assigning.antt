@@ -1,16 +1,13 @@
--- Which port the next downstream device is linked to (document 01, 'Ports and delays'). Definitions only.
+-- Which port the next downstream device is linked to (RULES, ports). Definitions only.
+-- The rule stands once, in `assignable`: what is said follows from it, and the record after it from what is said.
 use Prim.Native.Nat.{ℕ, zero, suc, _+_}
 use mathlib.Core.List.{List, [], _++_}
 use lib.Dec.{ltb, eqb}
-use lib.ListN.{take, drop}
-use Rattle.refusal.specs.Said.{Said, refuses, absent, pick}
-use Rattle.refusal.specs.declared.Refusal.the-variants.{NoPort, BadArgument}
+use lib.ListN.{take, drop, getD}
+use Rattle.refusal.specs.Said.{Said, gives, absent, refuses, pick}
 use Rattle.ports.specs.declared.Ports.{Ports}
-use Rattle.ports.specs.declared.Assigned.{Assigned}
 use Rattle.ports.specs.declared.assign.Look.{Look}
-use Rattle.ports.specs.declared.PortAnswer.{PortAnswer}
-use Rattle.ports.specs.declared.PortAnswer.the-variants as port
-use Rattle.ports.specs.Ports.{nowhere, numberAt, unlinkedAt, firstThat, activePorts, entry, linkSet}
+use Rattle.ports.specs.Ports.{nowhere, placeOf, unlinkedAt, firstThat, activePorts, entry, linkSet}
 use Rattle.ports.specs.Answers.{portSaid}
 
 -- a list n times over
@@ -30,21 +27,19 @@ lookMost = 4
 unfoldable pub assignable : Ports → ℕ
 assignable p = firstThat (unlinkedAt p) (take lookMost (drop (entry p + 1) (repeated rounds (activePorts p))))
 
--- an answer that leaves the record as it is
-abbrev pub unchanged : Ports → PortAnswer → Assigned
-unchanged p a = record { answer = a; ports = p }
-
--- the port at place k is linked to device d; nowhere: absent
-abbrev pub taken : Ports → ℕ → ℕ → Assigned
-taken p d k = pick (ltb k nowhere) (record { answer = port.At (numberAt k); ports = linkSet p k d }) (unchanged p port.Absent)
-
--- the answer and the record after assigning device d
-unfoldable pub assignedOf : Ports → ℕ → Assigned
-assignedOf p d = pick (eqb d 0) (unchanged p (port.No BadArgument)) (pick (ltb (entry p) nowhere) (taken p d (assignable p)) (unchanged p (port.No NoPort)))
-
--- what assigning says
+-- what assigning device d says: the port that the rule takes, or absent; device 0 is refused, and so are ports of which none is active
 unfoldable pub assignedSaid : Ports → ℕ → Said
 assignedSaid p d = pick (eqb d 0) (refuses 14 []) (pick (ltb (entry p) nowhere) (portSaid (assignable p) absent) (refuses 9 []))
+
+-- the record after an answer: the port that is given leads to device d; where none is given, the record stays
+abbrev pub linkedAs : Ports → ℕ → Said → Ports
+linkedAs p d (gives l) = linkSet p (placeOf (getD l 0 0)) d
+linkedAs p d absent = p
+linkedAs p d (refuses n l) = p
+
+-- the record after assigning device d
+unfoldable pub assignedPorts : Ports → ℕ → Ports
+assignedPorts p d = linkedAs p d (assignedSaid p d)
 
 -- what a search of the repeated list takes, that stands at l, in the ports ks that follow
 unfoldable pub finds : Ports → Look → List ℕ → ℕ

@@ -1,4 +1,4 @@
--- Delays of a device (document 01, 'Ports and delays'), from the receive times of its active ports. Definitions only.
+-- Delays of a device (RULES, ports), from the receive times of its active ports. Definitions only.
 use Prim.Native.Nat.{ℕ, zero, suc, _+_, _-_, min, max}
 use mathlib.Core.Bool.{Bool, _&&_}
 use mathlib.Core.List.{List, [], _∷_, map}
@@ -16,8 +16,8 @@ smallest [] = 0
 smallest (t ∷ ts) = folded min t ts
 
 -- the largest less the smallest
-unfoldable pub spread : List ℕ → ℕ
-spread ts = largest ts - smallest ts
+unfoldable pub breadth : List ℕ → ℕ
+breadth ts = largest ts - smallest ts
 
 -- a delay; one of 0 is absent
 unfoldable pub delaySaid : ℕ → Said
@@ -27,7 +27,7 @@ delaySaid t = pick (eqb t 0) absent (gives (t ∷ []))
 
 -- the total: the largest less the smallest active time
 unfoldable pub total : Ports → ℕ
-total p = spread (map (timeAt p) (activePorts p))
+total p = breadth (map (timeAt p) (activePorts p))
 
 -- what is said of it
 unfoldable pub totalSaid : Ports → Said
@@ -45,7 +45,7 @@ activeBetween p e k = those (between e k) (activePorts p)
 
 -- the same as the total, over the active ports from the entry's place to place k
 unfoldable pub timeTo : Ports → ℕ → ℕ
-timeTo p k = spread (map (timeAt p) (activeBetween p (entry p) k))
+timeTo p k = breadth (map (timeAt p) (activeBetween p (entry p) k))
 
 -- what is said of it, for port n: 10 is tested before 9
 unfoldable pub timeToSaid : Ports → ℕ → Said

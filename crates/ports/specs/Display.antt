@@ -1,4 +1,4 @@
--- The text of a device's ports: document 01 has `ports [ open closed open closed ]` for active ports 0 and 1. Definitions only.
+-- The text of a device's ports (RULES, ports): `ports [ open closed open closed ]` for active ports 0 and 1. Definitions only.
 use Prim.Native.Nat.{ℕ, zero, suc}
 use mathlib.Core.Bool.{Bool}
 use mathlib.Core.List.{List, [], _∷_, _++_}
@@ -21,6 +21,10 @@ closing = 93 ∷ []
 unfoldable pub wordOf : Bool → List ℕ
 wordOf active = pick active (111 ∷ 112 ∷ 101 ∷ 110 ∷ 32 ∷ []) (99 ∷ 108 ∷ 111 ∷ 115 ∷ 101 ∷ 100 ∷ 32 ∷ [])
 
+-- the longer of the words, `closed `, in bytes
+abbrev pub wordMost : ℕ
+wordMost = 7
+
 -- the words of the first k places
 unfoldable pub words : Ports → ℕ → List ℕ
 words p zero = []
@@ -29,6 +33,10 @@ words p (suc k) = words p k ++ wordOf (activeAt p k)
 -- the text: a word for each port, in the order of places
 unfoldable pub textOf : Ports → List ℕ
 textOf p = opening ++ words p portCount ++ closing
+
+-- the longest text, that of four closed ports, in bytes
+abbrev pub textMost : ℕ
+textMost = 37
 
 -- how many bytes are written; a buffer that is too short is refused
 unfoldable pub displaySaid : Ports → List ℕ → Said

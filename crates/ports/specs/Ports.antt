@@ -1,4 +1,4 @@
--- The ports of a device and the list of active ones (document 01, 'Ports and delays'). Definitions only.
+-- The ports of a device and the list of active ones (RULES, ports). Definitions only.
 -- A port is named by its place, 0 to 3; a frame passes the places in this order.
 use Prim.Native.Nat.{ℕ}
 use mathlib.Core.Bool.{Bool, true, false, _&&_}

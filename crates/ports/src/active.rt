@@ -3,21 +3,22 @@ ghost use mathlib.Core.Path.{_≡_};
 ghost use Prim.Native.Nat.{_<_, _≤_};
 ghost use lib.ListN.{length};
 ghost use Rattle.refusal.specs.Said.{pick};
-ghost use Rattle.ports.specs.Ports.{activeAt, timeAt, linkedAt, firstThat, taking, sooner, lastOf, activePorts, entry};
+ghost use Rattle.ports.specs.Ports.{portCount, nowhere, activeAt, timeAt, linkedAt, firstThat, taking, sooner, lastOf, activePorts, entry};
 ghost use Rattle.ports.specs.Answers.{countOf};
 use crate::Ports;
 use crate::Topology;
+use crate::place::NOWHERE;
 use crate::place::leads_to;
 use crate::place::port_at;
 
-// The place best (4: none yet), or the place k if it is active and earlier.
+// The place best (nowhere: none yet), or the place k if it is active and earlier.
 fn earlier(p: Ports, best: usize, k: usize) -> usize
-    requires { ⌜ k < 4 ⌝ }
+    requires { ⌜ k < nowhere ⌝ }
     ensures { λ r. ⌜ r ≡ taking (activeAt p) (sooner (timeAt p)) best k ⌝ }
 {
     let q = port_at(p, k);
     if q.active {
-        if best < 4 {
+        if best < NOWHERE {
             let b = port_at(p, best);
             if q.dc_receive_time < b.dc_receive_time {
                 k
@@ -32,14 +33,14 @@ fn earlier(p: Ports, best: usize, k: usize) -> usize
     }
 }
 
-// The entry's place, or 4.
+// The entry's place, or nowhere.
 pub(crate) fn entry_place(p: Ports) -> usize
     ensures { λ r. ⌜ r ≡ entry p ⌝ }
 {
-    earlier(p, earlier(p, earlier(p, earlier(p, 4, 0), 1), 2), 3)
+    earlier(p, earlier(p, earlier(p, earlier(p, NOWHERE, 0), 1), 2), 3)
 }
 
-// The highest active place, or 4.
+// The highest active place, or nowhere.
 pub(crate) fn last_place(p: Ports) -> usize
     ensures { λ r. ⌜ r ≡ lastOf (activePorts p) ⌝ }
 {
@@ -55,10 +56,10 @@ pub(crate) fn last_place(p: Ports) -> usize
     if port_at(p, 0).active {
         return 0;
     }
-    4
+    NOWHERE
 }
 
-// The first active place that is linked to this device, or 4.
+// The first active place that is linked to this device, or nowhere.
 pub(crate) fn linked_place(p: Ports, device: u16) -> usize
     ensures { λ r. ⌜ r ≡ firstThat (linkedAt p device) (activePorts p) ⌝ }
 {
@@ -74,12 +75,12 @@ pub(crate) fn linked_place(p: Ports, device: u16) -> usize
     if leads_to(p, 3, device) {
         return 3;
     }
-    4
+    NOWHERE
 }
 
 // 1 if the port at a place is active, else 0.
 fn one_if(p: Ports, k: usize) -> u8
-    requires { ⌜ k < 4 ⌝ }
+    requires { ⌜ k < nowhere ⌝ }
     ensures { λ r. ⌜ (r ≡ pick (activeAt p k) 1 0) × (r ≤ 1) ⌝ }
 {
     let a = p.0;
@@ -89,14 +90,14 @@ fn one_if(p: Ports, k: usize) -> u8
 
 // How many ports are active.
 pub(crate) fn count(p: Ports) -> u8
-    ensures { λ r. ⌜ (r ≡ length (activePorts p)) × (r ≤ 4) ⌝ }
+    ensures { λ r. ⌜ (r ≡ length (activePorts p)) × (r ≤ portCount) ⌝ }
 {
     one_if(p, 0) + (one_if(p, 1) + (one_if(p, 2) + one_if(p, 3)))
 }
 
 // The topology by the count of active ports.
 pub(crate) fn topology_of(n: u8) -> Topology
-    requires { ⌜ (0 < n) × (n ≤ 4) ⌝ }
+    requires { ⌜ (0 < n) × (n ≤ portCount) ⌝ }
     ensures { λ r. ⌜ countOf r ≡ n ⌝ }
 {
     if n == 1 {

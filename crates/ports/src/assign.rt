@@ -1,13 +1,20 @@
-// The assigning rule, by going through the list of active ports eight times over.
+// The assigning rule, by going through the list of active ports over and over.
 ghost use mathlib.Core.Path.{_≡_};
 ghost use mathlib.Core.List.{List, _∷_, _++_};
 ghost use Prim.Native.Nat.{ℕ, _<_};
 ghost use Rattle.refusal.specs.Said.{pick};
-ghost use Rattle.ports.specs.Ports.{isFree, activeAt, activePorts, entry};
+ghost use Rattle.ports.specs.Ports.{nowhere, isFree, activeAt, activePorts, entry};
 ghost use Rattle.ports.specs.Assigning.{assignable, finds};
 use crate::Link;
 use crate::Ports;
+use crate::place::NOWHERE;
 use crate::place::port_at;
+
+// How often the list of active ports is repeated: enough to drop four and to look at four.
+const ROUNDS: usize = 8;
+
+// How many of it are looked at.
+const LOOK_MOST: usize = 4;
 
 // Where a search of the repeated list stands.
 struct Look {
@@ -15,7 +22,7 @@ struct Look {
     skip: usize,
     // How many are still to be looked at.
     left: usize,
-    // The place that is taken, or 4.
+    // The place that is taken, or nowhere.
     taken: usize,
 }
 
@@ -31,19 +38,19 @@ fn is_free(link: Link) -> bool
 
 // The search passes the place k.
 fn pass(p: Ports, l: Look, k: usize) -> Look
-    requires { ⌜ k < 4 ⌝ }
+    requires { ⌜ k < nowhere ⌝ }
     ensures { λ r. ⌜ ((ks : List ℕ) → finds p r ks ≡ finds p l (pick (activeAt p k) (k ∷ ks) ks)) ⌝ }
 {
     let q = port_at(p, k);
     if q.active {
-        if l.taken < 4 {
+        if l.taken < NOWHERE {
             return l;
         }
         if 0 < l.skip {
             return Look {
                 skip: l.skip - 1,
                 left: l.left,
-                taken: 4,
+                taken: NOWHERE,
             };
         }
         if l.left == 0 {
@@ -52,7 +59,7 @@ fn pass(p: Ports, l: Look, k: usize) -> Look
         Look {
             skip: 0,
             left: l.left - 1,
-            taken: if is_free(q.downstream_to) { k } else { 4 },
+            taken: if is_free(q.downstream_to) { k } else { NOWHERE },
         }
     } else {
         l
@@ -66,20 +73,20 @@ fn turn(p: Ports, l: Look) -> Look
     pass(p, pass(p, pass(p, pass(p, l, 0), 1), 2), 3)
 }
 
-// The place that the next downstream device is linked to, or 4; e is the entry's place.
+// The place that the next downstream device is linked to, or nowhere; e is the entry's place.
 pub(crate) fn next_assignable_port(p: Ports, e: usize) -> usize
-    requires { ⌜ (e ≡ entry p) × (e < 4) ⌝ }
+    requires { ⌜ (e ≡ entry p) × (e < nowhere) ⌝ }
     ensures { λ r. ⌜ r ≡ assignable p ⌝ }
 {
     let mut l = Look {
         skip: e + 1,
-        left: 4,
-        taken: 4,
+        left: LOOK_MOST,
+        taken: NOWHERE,
     };
     let mut i = 0usize;
-    while i < 8 {
+    while i < ROUNDS {
         l = turn(p, l);
         i += 1;
     }
-    if l.taken < 4 { l.taken } else { 4 }
+    if l.taken < NOWHERE { l.taken } else { NOWHERE }
 }

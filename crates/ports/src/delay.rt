@@ -1,15 +1,19 @@
 // Delays from the receive times of the active ports: over all of them, from the entry to a port, between neighbours.
 ghost use mathlib.Core.Path.{_≡_};
 ghost use mathlib.Core.List.{map};
-ghost use Prim.Native.Nat.{_<_, _≤_, _-_, max};
-ghost use Rattle.ports.specs.Ports.{activeAt, timeAt, taking, portAt, activePorts, onlyIf, only};
+ghost use Prim.Native.Nat.{_<_, _≤_, _+_, _-_, max};
+ghost use Rattle.ports.specs.Ports.{nowhere, activeAt, timeAt, taking, portAt, activePorts, onlyIf, only};
 ghost use Rattle.ports.specs.Answers.{saidTime};
-ghost use Rattle.ports.specs.Delays.{largest, total, delaySaid, gap, gaps, between};
+ghost use Rattle.ports.specs.Delays.{largest, total, delaySaid, gap, gaps, between, sumMost};
 use crate::Port;
 use crate::Ports;
 use crate::TimeAnswer;
 use crate::active::entry_place;
+use crate::place::NOWHERE;
 use crate::place::port_at;
+
+// A sum of delays has 32 bits.
+pub(crate) const SUM_MOST: u64 = 4294967295;
 
 // A delay; one of 0 is absent.
 pub(crate) fn delay(t: u32) -> TimeAnswer
@@ -31,7 +35,7 @@ fn less(a: u32, b: u32) -> u32
 
 // The larger of a time and that of the place k, if it is active.
 fn later(p: Ports, time: u32, k: usize) -> u32
-    requires { ⌜ k < 4 ⌝ }
+    requires { ⌜ k < nowhere ⌝ }
     ensures { λ r. ⌜ r ≡ taking (activeAt p) (λ t j. max t (timeAt p j)) time k ⌝ }
 {
     let q = port_at(p, k);
@@ -58,7 +62,7 @@ pub(crate) fn total_time(p: Ports) -> u32
     ensures { λ r. ⌜ r ≡ total p ⌝ }
 {
     let e = entry_place(p);
-    if e < 4 {
+    if e < NOWHERE {
         less(largest_time(p), port_at(p, e).dc_receive_time)
     } else {
         0
@@ -67,7 +71,7 @@ pub(crate) fn total_time(p: Ports) -> u32
 
 // The port at a place, active only if the place lies from one to another.
 fn kept(p: Ports, from: usize, to: usize, k: usize) -> Port
-    requires { ⌜ k < 4 ⌝ }
+    requires { ⌜ k < nowhere ⌝ }
     ensures { λ r. ⌜ r ≡ onlyIf (portAt p k) (between from to k) ⌝ }
 {
     let a = p.0;
@@ -99,8 +103,8 @@ pub(crate) fn narrowed(p: Ports, from: usize, to: usize) -> Ports
 
 // What the neighbouring places k and k + 1 add: the later less the earlier time, if both are active.
 fn gap_at(p: Ports, k: usize) -> u64
-    requires { ⌜ k < 3 ⌝ }
-    ensures { λ r. ⌜ (r ≡ gap p k) × (r ≤ 4294967295) ⌝ }
+    requires { ⌜ k + 1 < nowhere ⌝ }
+    ensures { λ r. ⌜ (r ≡ gap p k) × (r ≤ sumMost) ⌝ }
 {
     let a = port_at(p, k);
     let b = port_at(p, k + 1);
@@ -117,7 +121,7 @@ fn gap_at(p: Ports, k: usize) -> u64
 
 // The sum over the pairs whose first lies before the place k.
 pub(crate) fn gaps_before(p: Ports, k: usize) -> u64
-    requires { ⌜ k < 4 ⌝ }
+    requires { ⌜ k < nowhere ⌝ }
     ensures { λ r. ⌜ r ≡ gaps p k ⌝ }
 {
     let mut sum = 0u64;

@@ -1,11 +1,11 @@
 // A device's ports: which are active, when each saw the frame, which device hangs on each; and the delays between them.
-// Follows ethercrab's src/subdevice/ports.rs, by value, in the words of document 01, 'Ports and delays'.
+// Follows ethercrab's src/subdevice/ports.rs, by value; RULES, ports.
 // Places 0, 1, 2, 3 hold ports 0, 3, 1, 2, the order in which a frame passes them. The place decides, whatever `number` a record holds.
 ghost use mathlib.Core.Path.{_≡_};
 ghost use Rattle.ports.specs.Ports.{fresh, timesSet};
 ghost use Rattle.ports.specs.Answers.{saidPort, saidTime, saidTopology, saidText, entrySaid, lastSaid, linkedSaid, topologySaid};
 ghost use Rattle.ports.specs.Delays.{totalSaid, timeToSaid, intermediateSaid};
-ghost use Rattle.ports.specs.Assigning.{assignedOf};
+ghost use Rattle.ports.specs.Assigning.{assignedSaid, assignedPorts};
 ghost use Rattle.ports.specs.Display.{displaySaid, displayBuf};
 use active::count;
 use active::entry_place;
@@ -13,10 +13,12 @@ use active::last_place;
 use active::linked_place;
 use active::topology_of;
 use assign::next_assignable_port;
+use delay::SUM_MOST;
 use delay::delay;
 use delay::gaps_before;
 use delay::narrowed;
 use delay::total_time;
+use place::NOWHERE;
 use place::fresh_port;
 use place::linked_at;
 use place::number_at;
@@ -32,6 +34,9 @@ mod assign;
 mod delay;
 mod place;
 mod text;
+
+// Ports are numbered below this.
+const PORT_COUNT: u8 = 4;
 
 // The downstream device on a port.
 pub enum Link {
@@ -129,7 +134,7 @@ impl Ports {
         ensures { λ r. ⌜ saidPort r ≡ entrySaid self ⌝ }
     {
         let k = entry_place(self);
-        if k < 4 {
+        if k < NOWHERE {
             PortAnswer::At(number_at(k))
         } else {
             PortAnswer::No(Refusal::NoPort)
@@ -165,9 +170,9 @@ impl Ports {
     pub fn propagation_time_to(self, port: u8) -> TimeAnswer
         ensures { λ r. ⌜ saidTime r ≡ timeToSaid self port ⌝ }
     {
-        if port < 4 {
+        if port < PORT_COUNT {
             let e = entry_place(self);
-            if e < 4 {
+            if e < NOWHERE {
                 delay(total_time(narrowed(self, e, place_of(port))))
             } else {
                 TimeAnswer::No(Refusal::NoPort)
@@ -181,9 +186,9 @@ impl Ports {
     pub fn intermediate_propagation_time_to(self, port: u8) -> TimeAnswer
         ensures { λ r. ⌜ saidTime r ≡ intermediateSaid self port ⌝ }
     {
-        if port < 4 {
+        if port < PORT_COUNT {
             let sum = gaps_before(self, place_of(port));
-            if sum <= 4294967295 {
+            if sum <= SUM_MOST {
                 TimeAnswer::Time(sum as u32)
             } else {
                 TimeAnswer::No(Refusal::Sum)
@@ -195,7 +200,7 @@ impl Ports {
 
     // Links a downstream device to the next port, from the entry on, that has none. Refuses 14 for device 0, then 9.
     pub fn assign_next_downstream_port(self, downstream_subdevice_index: u16) -> Assigned
-        ensures { λ r. ⌜ r ≡ assignedOf self «downstream_subdevice_index» ⌝ }
+        ensures { λ r. ⌜ (saidPort (r .answer) ≡ assignedSaid self «downstream_subdevice_index») × (r .ports ≡ assignedPorts self «downstream_subdevice_index») ⌝ }
     {
         if downstream_subdevice_index == 0 {
             return Assigned {
@@ -204,9 +209,9 @@ impl Ports {
             };
         }
         let e = entry_place(self);
-        if e < 4 {
+        if e < NOWHERE {
             let k = next_assignable_port(self, e);
-            if k < 4 {
+            if k < NOWHERE {
                 Assigned {
                     answer: PortAnswer::At(number_at(k)),
                     ports: linked_at(self, k, downstream_subdevice_index),
@@ -235,6 +240,7 @@ impl Ports {
             port_or_absent(linked_place(self, subdevice))
         }
     }
+
     // The text `ports [ open closed open closed ]`, a word for each place, into the front of the buffer. Refuses 14 if it is too short.
     pub fn display(self, buf: &mut [u8]) -> TextAnswer
         ensures { λ r. ⌜ saidText r ≡ displaySaid self (now (buf .entry)) ⌝ }

@@ -3,20 +3,25 @@ ghost use mathlib.Core.Path.{_≡_};
 ghost use mathlib.Core.Bool.{_&&_};
 ghost use Prim.Native.Nat.{_<_};
 ghost use Rattle.refusal.specs.Said.{absent};
-ghost use Rattle.ports.specs.Ports.{numberAt, placeOf, portAt, activeAt, linkedAt, freshPort, timed, linkSet};
+ghost use Rattle.ports.specs.Ports.{portCount, nowhere, numberAt, placeOf, portAt, activeAt, linkedAt, freshPort, timed, linkSet};
 ghost use Rattle.ports.specs.Answers.{saidPort, portSaid};
 use crate::Link;
 use crate::Port;
 use crate::PortAnswer;
 use crate::Ports;
 
+// The place of no port: one past the last.
+pub(crate) const NOWHERE: usize = 4;
+
+// The number of the port at each place.
 const NUMBERS: [u8; 4] = [0, 3, 1, 2];
 
+// The place of the port with each number.
 const PLACES: [usize; 4] = [0, 2, 3, 1];
 
 // The number of the port at a place.
 pub(crate) fn number_at(k: usize) -> u8
-    requires { ⌜ k < 4 ⌝ }
+    requires { ⌜ k < nowhere ⌝ }
     ensures { λ r. ⌜ r ≡ numberAt k ⌝ }
 {
     NUMBERS[k]
@@ -24,8 +29,8 @@ pub(crate) fn number_at(k: usize) -> u8
 
 // The place of the port with a number.
 pub(crate) fn place_of(n: u8) -> usize
-    requires { ⌜ n < 4 ⌝ }
-    ensures { λ r. ⌜ (r ≡ placeOf n) × (r < 4) ⌝ }
+    requires { ⌜ n < portCount ⌝ }
+    ensures { λ r. ⌜ (r ≡ placeOf n) × (r < nowhere) ⌝ }
 {
     PLACES[n as usize]
 }
@@ -34,7 +39,7 @@ pub(crate) fn place_of(n: u8) -> usize
 pub(crate) fn port_or_absent(k: usize) -> PortAnswer
     ensures { λ r. ⌜ saidPort r ≡ portSaid k absent ⌝ }
 {
-    if k < 4 {
+    if k < NOWHERE {
         PortAnswer::At(number_at(k))
     } else {
         PortAnswer::Absent
@@ -43,7 +48,7 @@ pub(crate) fn port_or_absent(k: usize) -> PortAnswer
 
 // The port at a place.
 pub(crate) fn port_at(p: Ports, k: usize) -> Port
-    requires { ⌜ k < 4 ⌝ }
+    requires { ⌜ k < nowhere ⌝ }
     ensures { λ r. ⌜ r ≡ portAt p k ⌝ }
 {
     let a = p.0;
@@ -52,7 +57,7 @@ pub(crate) fn port_at(p: Ports, k: usize) -> Port
 
 // Whether the port at a place is active and linked to this device.
 pub(crate) fn leads_to(p: Ports, k: usize, device: u16) -> bool
-    requires { ⌜ k < 4 ⌝ }
+    requires { ⌜ k < nowhere ⌝ }
     ensures { λ r. ⌜ r ≡ activeAt p k && linkedAt p device k ⌝ }
 {
     let a = p.0;
@@ -82,7 +87,7 @@ pub(crate) fn fresh_port(active: bool, number: u8) -> Port
 
 // The port at a place with this receive time.
 pub(crate) fn timed_at(p: Ports, k: usize, time: u32) -> Port
-    requires { ⌜ k < 4 ⌝ }
+    requires { ⌜ k < nowhere ⌝ }
     ensures { λ r. ⌜ r ≡ timed (portAt p k) time ⌝ }
 {
     let a = p.0;
@@ -98,7 +103,7 @@ pub(crate) fn timed_at(p: Ports, k: usize, time: u32) -> Port
 
 // The record in which the port at a place is linked to this device.
 pub(crate) fn linked_at(p: Ports, k: usize, device: u16) -> Ports
-    requires { ⌜ k < 4 ⌝ }
+    requires { ⌜ k < nowhere ⌝ }
     ensures { λ r. ⌜ r ≡ linkSet p k device ⌝ }
 {
     let mut a = p.0;

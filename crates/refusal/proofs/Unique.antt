@@ -1,28 +1,16 @@
 -- An answer is known from what it says, by an inverse, and so is a refusal: a promise on what is said allows one.
-use Prim.Native.Nat.{ℕ}
+use Prim.Native.Nat.{ℕ, _+_, _-_}
 use native.Mathlib.Omega.{arith}
 use mathlib.Core.Path.{_≡_, refl, sym, ap, _∙_}
-use mathlib.Core.List.{List}
+use mathlib.Core.List.{List, [], _∷_}
 use lib.ListN.{getD}
 use lib.Dec.{eqb}
+use types.Run.{OneOf, miss}
+use denote.Enum.Declared.{tagOf}
 use Rattle.refusal.specs.Said.{Said, gives, refuses, numberOf, valuesOf, pick}
 use Rattle.refusal.specs.declared.Refusal.{Refusal}
-use Rattle.refusal.specs.declared.Refusal.the-variants.{
-  Address,
-  Overrun,
-  NoCategory,
-  StringTooLong,
-  Decode,
-  Capacity,
-  NotWritable,
-  TooLong,
-  NoPort,
-  BadPort,
-  Sum,
-  BadFrame,
-  NoRoom,
-  BadArgument,
-}
+use Rattle.refusal.specs.declared.Refusal.the-variants as r
+use Rattle.refusal.proofs.Refusal.{the-type}
 
 -- two answers that say the same are the same, where each is got back from what it says
 pub unique : {A B : Type 0} (say : A → B) (from : B → A) → ((r : A) → from (say r) ≡ r) → (a b : A) (s : B) → say a ≡ s → say b ≡ s → a ≡ b
@@ -34,35 +22,76 @@ gives-none n l m e = let z : _≡_ {A = ℕ} 0 1 = cc in omega arith
 
 -- ---- a refusal, from its number and its values
 
+-- the refusals in the order of their numbers, the string that is too long with these values
+abbrev inOrder : List ℕ → List Refusal
+inOrder l =
+    r.Address
+    ∷ r.Overrun
+    ∷ r.NoCategory
+    ∷ r.StringTooLong (getD l 0 0) (getD l 1 0)
+    ∷ r.Decode
+    ∷ r.Capacity
+    ∷ r.NotWritable
+    ∷ r.TooLong
+    ∷ r.NoPort
+    ∷ r.BadPort
+    ∷ r.Sum
+    ∷ r.BadFrame
+    ∷ r.NoRoom
+    ∷ r.BadArgument
+    ∷ []
+
 unfoldable pub refusalOf : ℕ → List ℕ → Refusal
-refusalOf n l =
-    pick (eqb n 1) Address
-    (pick (eqb n 2) Overrun
-    (pick (eqb n 3) NoCategory
-    (pick (eqb n 4) (StringTooLong (getD l 0 0) (getD l 1 0))
-    (pick (eqb n 5) Decode
-    (pick (eqb n 6) Capacity
-    (pick (eqb n 7) NotWritable
-    (pick (eqb n 8) TooLong
-    (pick (eqb n 9) NoPort
-    (pick (eqb n 10) BadPort
-    (pick (eqb n 11) Sum
-    (pick (eqb n 12) BadFrame
-    (pick (eqb n 13) NoRoom BadArgument))))))))))))
+refusalOf n l = getD (inOrder l) (n - 1) r.BadArgument
+
+-- ONLY 4 HAS VALUES: a refusal has none and is known by its number, or it is the string that is too long. One that is to have values becomes a case of its own.
+-- Whatever else is said of all refusals follows from this, here and in the crates above: a refusal that is added costs its line here, and none there.
+pub data Valued : Refusal → Type 0 where
+  none : {x : Refusal} → valuesOf x ≡ [] → refusalOf (numberOf x) [] ≡ x → Valued x
+  too-long : (room stored : ℕ) → Valued (r.StringTooLong room stored)
+
+pub valued : (x : Refusal) → Valued x
+unfolding refusalOf
+valued r.Address = none refl refl
+valued r.Overrun = none refl refl
+valued r.NoCategory = none refl refl
+valued (r.StringTooLong room stored) = too-long room stored
+valued r.Decode = none refl refl
+valued r.Capacity = none refl refl
+valued r.NotWritable = none refl refl
+valued r.TooLong = none refl refl
+valued r.NoPort = none refl refl
+valued r.BadPort = none refl refl
+valued r.Sum = none refl refl
+valued r.BadFrame = none refl refl
+valued r.NoRoom = none refl refl
+valued r.BadArgument = none refl refl
 
 pub back : (x : Refusal) → refusalOf (numberOf x) (valuesOf x) ≡ x
 unfolding refusalOf
-back Address = refl
-back Overrun = refl
-back NoCategory = refl
-back (StringTooLong r s) = refl
-back Decode = refl
-back Capacity = refl
-back NotWritable = refl
-back TooLong = refl
-back NoPort = refl
-back BadPort = refl
-back Sum = refl
-back BadFrame = refl
-back NoRoom = refl
-back BadArgument = refl
+back x = go (valued x)
+  where
+    go : {y : Refusal} → Valued y → refusalOf (numberOf y) (valuesOf y) ≡ y
+    go (none v e) = rw v e
+    go (too-long room stored) = refl
+
+-- ---- a match that has an arm for the string that is too long, and one for all others
+
+abbrev tooLongAt : ℕ
+tooLongAt = tagOf the-type (r.StringTooLong 0 0)
+
+-- the places of the others among the variants
+abbrev placesFrom : ℕ → List Refusal → List ℕ
+placesFrom i [] = []
+placesFrom i (x ∷ xs) = pick (eqb i tooLongAt) (placesFrom (i + 1) xs) (i ∷ placesFrom (i + 1) xs)
+
+abbrev pub others : List ℕ
+others = placesFrom 0 (inOrder [])
+
+-- they have no values
+pub no-values : (x : Refusal) → OneOf others (tagOf the-type x) → valuesOf x ≡ []
+no-values x k = go (valued x) k
+  where
+    go : {y : Refusal} → Valued y → OneOf others (tagOf the-type y) → valuesOf y ≡ []
+    go (none v e) h = v
+    go (too-long room stored) h = absurd (miss others tooLongAt tt h)

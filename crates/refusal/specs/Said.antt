@@ -1,65 +1,39 @@
--- What a call says, on paper: values, that there is none, or a refusal by document 01's number with its values.
+-- What a call says, on paper: values, that there is none, or a refusal by its number (RULES, refusals) with its values.
 -- Every answer enum of the crates above has a map into Said, and the promises are equations of Said.
 use Prim.Native.Nat.{ℕ}
 use mathlib.Core.List.{List, [], _∷_}
 use mathlib.Core.Bool.{Bool, true, false}
 use lib.ListN.{getD}
 use Rattle.refusal.specs.declared.Refusal.{Refusal}
-use Rattle.refusal.specs.declared.Refusal.the-variants.{
-  Address,
-  Overrun,
-  NoCategory,
-  StringTooLong,
-  Decode,
-  Capacity,
-  NotWritable,
-  TooLong,
-  NoPort,
-  BadPort,
-  Sum,
-  BadFrame,
-  NoRoom,
-  BadArgument,
-}
+use Rattle.refusal.specs.declared.Refusal.the-variants as r
 
 pub data Said : Type 0 where
   gives : List ℕ → Said
   absent : Said
   refuses : ℕ → List ℕ → Said
 
--- document 01's number of each refusal
-abbrev pub numberOf : Refusal → ℕ
-numberOf Address = 1
-numberOf Overrun = 2
-numberOf NoCategory = 3
-numberOf (StringTooLong r s) = 4
-numberOf Decode = 5
-numberOf Capacity = 6
-numberOf NotWritable = 7
-numberOf TooLong = 8
-numberOf NoPort = 9
-numberOf BadPort = 10
-numberOf Sum = 11
-numberOf BadFrame = 12
-numberOf NoRoom = 13
-numberOf BadArgument = 14
+-- THE REFUSALS (RULES, refusals): the number that each is known by, and the values that it gives
+abbrev pub knownBy : Refusal → ℕ × List ℕ
+knownBy r.Address = (1, [])
+knownBy r.Overrun = (2, [])
+knownBy r.NoCategory = (3, [])
+knownBy (r.StringTooLong room stored) = (4, room ∷ stored ∷ [])
+knownBy r.Decode = (5, [])
+knownBy r.Capacity = (6, [])
+knownBy r.NotWritable = (7, [])
+knownBy r.TooLong = (8, [])
+knownBy r.NoPort = (9, [])
+knownBy r.BadPort = (10, [])
+knownBy r.Sum = (11, [])
+knownBy r.BadFrame = (12, [])
+knownBy r.NoRoom = (13, [])
+knownBy r.BadArgument = (14, [])
 
--- the values that a refusal gives: a string's room and its stored length, else none
+abbrev pub numberOf : Refusal → ℕ
+numberOf x = knownBy x .0
+
 abbrev pub valuesOf : Refusal → List ℕ
-valuesOf Address = []
-valuesOf Overrun = []
-valuesOf NoCategory = []
-valuesOf (StringTooLong r s) = r ∷ s ∷ []
-valuesOf Decode = []
-valuesOf Capacity = []
-valuesOf NotWritable = []
-valuesOf TooLong = []
-valuesOf NoPort = []
-valuesOf BadPort = []
-valuesOf Sum = []
-valuesOf BadFrame = []
-valuesOf NoRoom = []
-valuesOf BadArgument = []
+valuesOf x = knownBy x .1
 
 abbrev pub saidOf : Refusal → Said
 saidOf x = refuses (numberOf x) (valuesOf x)

@@ -1,4 +1,4 @@
-// The fourteen refusals of document 01, 'When the desk says no', and the number that each is known by.
+// The refusals (RULES, refusals), and the number that each is known by.
 // Every answer of the crates above is put on paper as `Said` (specs/Said.antt), and the promises are equations of it.
 ghost use mathlib.Core.Path.{_≡_};
 ghost use Rattle.refusal.specs.Said.{numberOf};
@@ -30,11 +30,11 @@ pub enum Refusal {
     BadFrame,
     // 13: no permitted cutting exists.
     NoRoom,
-    // 14: a size, command, category number or state outside document 01's bounds.
+    // 14: a size, command, category number or state outside its bounds.
     BadArgument,
 }
 
-// The number by which document 01 knows a refusal.
+// The number by which a refusal is known (RULES, refusals).
 pub fn number(x: Refusal) -> u8
     ensures { λ r. ⌜ r ≡ numberOf x ⌝ }
 {

@@ -1,4 +1,4 @@
--- What each answer says, in document 01's numbers and values. Definitions only.
+-- What each answer says, in numbers and values (RULES, refusals). Definitions only.
 use mathlib.Core.List.{[], _∷_}
 use Rattle.refusal.specs.Said.{Said, gives, saidOf}
 use Rattle.setup.specs.Setup.{pdiValues, bootstrapValues, checksumValues}

@@ -1,4 +1,5 @@
--- Where the fields lie that `setup` reads of the SII's fixed area (ETG2010 Table 2, ETG1000.6 Table 16). Nothing else says an offset. Definitions only.
+-- Where the fields lie that `setup` reads of the SII's fixed area (ETG2010 Table 2, ETG1000.6 Table 16). Nothing else says an offset but
+-- the head of src/lib.rt, once and under the same name. Definitions only.
 use Rattle.sii.specs.Layout.{Field, byte, word, atWord, start, checksum}
 
 -- ---- what the registers of the PDI start with, and those of the sync signals

@@ -6,21 +6,32 @@ use eeprom::byte_of;
 use eeprom::image_within;
 use eeprom::word_of;
 use refusal::Refusal;
+use sii::layout::CHECKSUM;
 ghost use mathlib.Core.Path.{_≡_};
 ghost use mathlib.Core.List.{[], _∷_};
 ghost use Rattle.refusal.specs.Said.{saidOf};
 ghost use Rattle.crc.specs.Crc.{crcOf};
-ghost use Rattle.setup.specs.Setup.{pdiOf, pdiSaid, bootstrapOf, bootstrapSaid, versionSaid, summed, checksumSaid};
+ghost use Rattle.setup.specs.Setup.{pdiOf, pdiValues, pdiSaid, bootstrapOf, bootstrapValues, bootstrapSaid, versionSaid, summed, checksumValues, checksumSaid};
 ghost use Rattle.setup.specs.Answers.{saidPdi, saidBootstrap, saidVersion, saidChecksum};
 
-// Where the fields lie, in bytes.
+// Where the fields lie, in bytes: specs/Layout.antt, under the same names.
 const PDI_CONTROL: u32 = 0;
 
-const CHECKSUM: usize = 14;
+const PDI_CONFIGURATION: u32 = 2;
 
-const BOOTSTRAP_MAILBOX: u32 = 40;
+const SYNC_IMPULSE_LENGTH: u32 = 4;
 
-const VERSION: u32 = 126;
+const PDI_CONFIGURATION2: u32 = 6;
+
+const BOOTSTRAP_RECEIVE_MAILBOX_OFFSET: u32 = 40;
+
+const BOOTSTRAP_RECEIVE_MAILBOX_SIZE: u32 = 42;
+
+const BOOTSTRAP_SEND_MAILBOX_OFFSET: u32 = 44;
+
+const BOOTSTRAP_SEND_MAILBOX_SIZE: u32 = 46;
+
+const SII_VERSION: u32 = 126;
 
 // What the registers of the PDI and of the sync signals start with.
 pub struct PdiControl {
@@ -82,9 +93,9 @@ fn pdi_in(image: &[u8], chunk: Chunk) -> PdiControl
 {
     PdiControl {
         pdi_control: word_of(image, chunk, PDI_CONTROL),
-        pdi_configuration: word_of(image, chunk, PDI_CONTROL + 2),
-        sync_impulse_length: word_of(image, chunk, PDI_CONTROL + 4),
-        pdi_configuration2: word_of(image, chunk, PDI_CONTROL + 6),
+        pdi_configuration: word_of(image, chunk, PDI_CONFIGURATION),
+        sync_impulse_length: word_of(image, chunk, SYNC_IMPULSE_LENGTH),
+        pdi_configuration2: word_of(image, chunk, PDI_CONFIGURATION2),
     }
 }
 
@@ -103,10 +114,10 @@ fn bootstrap_in(image: &[u8], chunk: Chunk) -> BootstrapMailbox
     ensures { λ r. ⌜ r ≡ bootstrapOf (now (image .entry)) ⌝ }
 {
     BootstrapMailbox {
-        subdevice_receive_offset: word_of(image, chunk, BOOTSTRAP_MAILBOX),
-        subdevice_receive_size: word_of(image, chunk, BOOTSTRAP_MAILBOX + 2),
-        subdevice_send_offset: word_of(image, chunk, BOOTSTRAP_MAILBOX + 4),
-        subdevice_send_size: word_of(image, chunk, BOOTSTRAP_MAILBOX + 6),
+        subdevice_receive_offset: word_of(image, chunk, BOOTSTRAP_RECEIVE_MAILBOX_OFFSET),
+        subdevice_receive_size: word_of(image, chunk, BOOTSTRAP_RECEIVE_MAILBOX_SIZE),
+        subdevice_send_offset: word_of(image, chunk, BOOTSTRAP_SEND_MAILBOX_OFFSET),
+        subdevice_send_size: word_of(image, chunk, BOOTSTRAP_SEND_MAILBOX_SIZE),
     }
 }
 
@@ -115,7 +126,7 @@ pub fn version(image: &[u8], chunk: Chunk) -> VersionAnswer
     ensures { λ r. ⌜ saidVersion r ≡ versionSaid (now (image .entry)) ⌝ }
 {
     if image_within(image) {
-        VersionAnswer::Version(word_of(image, chunk, VERSION))
+        VersionAnswer::Version(word_of(image, chunk, SII_VERSION))
     } else {
         VersionAnswer::No(Refusal::BadArgument)
     }
@@ -152,4 +163,34 @@ fn bytes_summed(image: &[u8], chunk: Chunk) -> [u8; 14]
         i += 1;
     }
     bytes
+}
+
+// ---- each record as the numbers that an answer gives, in their order
+
+pub fn pdi_row(p: PdiControl) -> [u64; 4]
+    ensures { λ r. ⌜ r ≡ pdiValues p ⌝ }
+{
+    [
+        p.pdi_control as u64,
+        p.pdi_configuration as u64,
+        p.sync_impulse_length as u64,
+        p.pdi_configuration2 as u64,
+    ]
+}
+
+pub fn bootstrap_row(m: BootstrapMailbox) -> [u64; 4]
+    ensures { λ r. ⌜ r ≡ bootstrapValues m ⌝ }
+{
+    [
+        m.subdevice_receive_offset as u64,
+        m.subdevice_receive_size as u64,
+        m.subdevice_send_offset as u64,
+        m.subdevice_send_size as u64,
+    ]
+}
+
+pub fn checksum_row(c: Checksums) -> [u64; 2]
+    ensures { λ r. ⌜ r ≡ checksumValues c ⌝ }
+{
+    [c.stored as u64, c.computed as u64]
 }

@@ -7,8 +7,9 @@ use lib.ListN.{getD}
 use lib.Dec.{eqb}
 use Rattle.refusal.specs.Said.{Said, gives, absent, refuses}
 use Rattle.refusal.proofs.Unique.{unique, refusalOf, back}
-use Rattle.sii.specs.General.{bit, generalValues}
-use Rattle.sii.specs.Answers.{saidAlias, saidSet, saidSize, saidIdentity, saidMailbox, saidFound, saidGeneral}
+use Rattle.wire.specs.Bytes.{bit}
+use Rattle.sii.specs.General.{generalValues}
+use Rattle.sii.specs.Answers.{saidAlias, saidSet, saidSize, saidIdentity, saidMailbox, saidFound, saidGeneral, saidWord, saidPorts}
 use Rattle.sii.specs.declared.SiiGeneral.{SiiGeneral}
 use Rattle.sii.specs.declared.AliasAnswer.{AliasAnswer}
 use Rattle.sii.specs.declared.AliasAnswer.the-variants as alias
@@ -24,6 +25,10 @@ use Rattle.sii.specs.declared.GeneralFound.{GeneralFound}
 use Rattle.sii.specs.declared.GeneralFound.the-variants as found
 use Rattle.sii.specs.declared.GeneralAnswer.{GeneralAnswer}
 use Rattle.sii.specs.declared.GeneralAnswer.the-variants as general
+use Rattle.sii.specs.declared.WordAnswer.{WordAnswer}
+use Rattle.sii.specs.declared.WordAnswer.the-variants as word
+use Rattle.sii.specs.declared.PortsAnswer.{PortsAnswer}
+use Rattle.sii.specs.declared.PortsAnswer.the-variants as ports
 
 -- ---- the fixed area
 
@@ -154,3 +159,31 @@ general-back (general.No x) = ap general.No (back x)
 
 pub general-unique : (a b : GeneralAnswer) (s : Said) → saidGeneral a ≡ s → saidGeneral b ≡ s → a ≡ b
 general-unique = unique saidGeneral answerOf general-back
+
+-- ---- General's ports and address by ETG2010's places
+
+unfoldable wordOf : Said → WordAnswer
+wordOf (gives l) = word.Word (getD l 0 0)
+wordOf absent = word.Word 0
+wordOf (refuses n l) = word.No (refusalOf n l)
+
+word-back : (r : WordAnswer) → wordOf (saidWord r) ≡ r
+unfolding wordOf
+word-back (word.Word n) = refl
+word-back (word.No x) = ap word.No (back x)
+
+pub word-unique : (a b : WordAnswer) (s : Said) → saidWord a ≡ s → saidWord b ≡ s → a ≡ b
+word-unique = unique saidWord wordOf word-back
+
+unfoldable portsFrom : Said → PortsAnswer
+portsFrom (gives l) = ports.Is (record { port0 = getD l 0 0; port1 = getD l 1 0; port2 = getD l 2 0; port3 = getD l 3 0 })
+portsFrom absent = ports.No (refusalOf 0 [])
+portsFrom (refuses n l) = ports.No (refusalOf n l)
+
+ports-back : (r : PortsAnswer) → portsFrom (saidPorts r) ≡ r
+unfolding portsFrom
+ports-back (ports.Is p) = refl
+ports-back (ports.No x) = ap ports.No (back x)
+
+pub ports-unique : (a b : PortsAnswer) (s : Said) → saidPorts a ≡ s → saidPorts b ≡ s → a ≡ b
+ports-unique = unique saidPorts portsFrom ports-back

@@ -1,8 +1,8 @@
--- What each answer says, in document 01's numbers and values. Definitions only.
+-- What each answer says, in numbers and values (RULES, refusals). Definitions only.
 use mathlib.Core.List.{[], _∷_}
 use Rattle.refusal.specs.Said.{Said, gives, absent, saidOf}
 use Rattle.sii.specs.Fixed.{identityValues, mailboxValues}
-use Rattle.sii.specs.General.{generalValues}
+use Rattle.sii.specs.General.{generalValues, portValues}
 use Rattle.sii.specs.declared.AliasAnswer.{AliasAnswer}
 use Rattle.sii.specs.declared.AliasAnswer.the-variants as alias
 use Rattle.sii.specs.declared.AliasSet.{AliasSet}
@@ -17,6 +17,10 @@ use Rattle.sii.specs.declared.GeneralFound.{GeneralFound}
 use Rattle.sii.specs.declared.GeneralFound.the-variants as found
 use Rattle.sii.specs.declared.GeneralAnswer.{GeneralAnswer}
 use Rattle.sii.specs.declared.GeneralAnswer.the-variants as general
+use Rattle.sii.specs.declared.WordAnswer.{WordAnswer}
+use Rattle.sii.specs.declared.WordAnswer.the-variants as word
+use Rattle.sii.specs.declared.PortsAnswer.{PortsAnswer}
+use Rattle.sii.specs.declared.PortsAnswer.the-variants as ports
 
 abbrev pub saidAlias : AliasAnswer → Said
 saidAlias (alias.Alias n) = gives (n ∷ [])
@@ -46,3 +50,11 @@ saidFound (found.No x) = saidOf x
 abbrev pub saidGeneral : GeneralAnswer → Said
 saidGeneral (general.Is g) = gives (generalValues g)
 saidGeneral (general.No x) = saidOf x
+
+abbrev pub saidWord : WordAnswer → Said
+saidWord (word.Word n) = gives (n ∷ [])
+saidWord (word.No x) = saidOf x
+
+abbrev pub saidPorts : PortsAnswer → Said
+saidPorts (ports.Is p) = gives (portValues p)
+saidPorts (ports.No x) = saidOf x

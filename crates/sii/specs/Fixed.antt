@@ -1,7 +1,7 @@
--- What is read out of the SII's fixed area, and setting the alias: document 01, 'What is read out', first two points. Definitions only.
+-- What is read out of the SII's fixed area, and setting the alias: RULES, read-out. Definitions only.
 use Prim.Native.Nat.{ℕ, _+_, _*_}
 use mathlib.Core.List.{List, [], _∷_}
-use mathlib.Core.Bool.{Bool}
+use mathlib.Core.Bool.{Bool, true, false}
 use lib.ListN.{length, take}
 use lib.Dec.{leb, ltb}
 use Rattle.refusal.specs.Said.{Said, gives, refuses, pick}
@@ -10,6 +10,7 @@ use Rattle.crc.specs.Crc.{crcOf}
 use Rattle.eeprom.specs.Image.{within}
 use Rattle.sii.specs.Layout.{
   start,
+  past,
   fixed,
   configuredStationAlias,
   checksum,
@@ -23,6 +24,7 @@ use Rattle.sii.specs.Layout.{
   sendMailboxSize,
   mailboxProtocol,
   memorySize,
+  unitBytes,
   protocolsBelow,
 }
 use Rattle.sii.specs.declared.SubDeviceIdentity.{SubDeviceIdentity}
@@ -72,15 +74,20 @@ unfoldable pub mailboxSaid : List ℕ → Said
 mailboxSaid image =
     lent image (pick (mailboxAdmits (mailboxOf image)) (gives (mailboxValues (mailboxOf image))) (refuses 5 []))
 
--- in bytes, in full: a unit has 128
+-- whether there is a mailbox (types.rs, `has_mailbox`): a protocol and a receive size, or a send size
+unfoldable pub hasMailbox : DefaultMailbox → Bool
+hasMailbox m =
+    pick (ltb 0 (m .«subdevice_send_size»)) true (pick (ltb 0 (m .«supported_protocols»)) (ltb 0 (m .«subdevice_receive_size»)) false)
+
+-- in bytes, in full
 unfoldable pub sizeSaid : List ℕ → Said
-sizeSaid image = lent image (gives ((fixed image memorySize + 1) * 128 ∷ []))
+sizeSaid image = lent image (gives ((fixed image memorySize + 1) * unitBytes ∷ []))
 
 -- ---- setting the alias
 
 -- the bytes that an image needs for it: up to the checksum's last
 abbrev pub checksumEnd : ℕ
-checksumEnd = start checksum + 2
+checksumEnd = past checksum
 
 -- an image with this alias
 unfoldable pub withAlias : List ℕ → ℕ → List ℕ

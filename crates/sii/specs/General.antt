@@ -1,12 +1,17 @@
--- The category General: document 01, 'When the desk says no', number 3, and types.rs, `SiiGeneral`. Definitions only.
+-- The category General: RULES, read-out, and types.rs, `SiiGeneral`; beside it two fields by ETG2010's places. Definitions only.
 use Prim.Native.Nat.{ℕ, _+_, _/_, _%_}
 use mathlib.Core.List.{List, [], _∷_}
-use mathlib.Core.Bool.{Bool, true, false, _&&_}
+use mathlib.Core.Bool.{Bool, _&&_}
+use lib.ListN.{getD}
 use lib.Dec.{leb, ltb}
 use Rattle.refusal.specs.Said.{Said, gives, absent, refuses, pick, on2}
+use Rattle.wire.specs.Bytes.{bit}
 use Rattle.category.specs.Numbers as numbers
 use Rattle.category.specs.Category.{categorySaid}
 use Rattle.sii.specs.Layout.{
+  Field,
+  start,
+  width,
   field,
   generalBytes,
   groupIdx,
@@ -18,20 +23,32 @@ use Rattle.sii.specs.Layout.{
   eoeDetails,
   generalFlags,
   currentOnEBus,
+  portsOfTypes,
+  addressOfTypes,
   physicalPort,
   physicalMemoryAddress,
+  portStatusLast,
   coeBelow,
   flagsBelow,
 }
 use Rattle.sii.specs.declared.SiiGeneral.{SiiGeneral}
+use Rattle.sii.specs.declared.PhysicalPorts.{PhysicalPorts}
 
 -- a value of an enum whose listed ones are 0 to the last: one not listed is the default, 0
 unfoldable pub listed : ℕ → ℕ → ℕ
 listed last n = pick (leb n last) n 0
 
--- a port's status: not used, MII, reserved, EBus, fast hot connect
 abbrev pub portStatus : ℕ → ℕ
-portStatus n = listed 4 n
+portStatus n = listed portStatusLast n
+
+-- the kinds of the ports, four bits each, port 0 in the lowest
+abbrev pub portsOf : ℕ → PhysicalPorts
+portsOf n = record {
+  port0 = portStatus (n % 16);
+  port1 = portStatus (n / 16 % 16);
+  port2 = portStatus (n / 256 % 16);
+  port3 = portStatus (n / 4096 % 16);
+}
 
 unfoldable pub generalOf : List ℕ → ℕ → SiiGeneral
 generalOf image p = record {
@@ -44,20 +61,16 @@ generalOf image p = record {
   «eoe_enabled» = ltb 0 (field image p eoeDetails);
   flags = field image p generalFlags;
   «ebus_current» = field image p currentOnEBus;
-  port0 = portStatus (field image p physicalPort % 16);
-  port1 = portStatus (field image p physicalPort / 16 % 16);
-  port2 = portStatus (field image p physicalPort / 256 % 16);
-  port3 = portStatus (field image p physicalPort / 4096 % 16);
-  «physical_memory_addr» = field image p physicalMemoryAddress;
+  port0 = portsOf (field image p portsOfTypes) .port0;
+  port1 = portsOf (field image p portsOfTypes) .port1;
+  port2 = portsOf (field image p portsOfTypes) .port2;
+  port3 = portsOf (field image p portsOfTypes) .port3;
+  «physical_memory_addr» = field image p addressOfTypes;
 }
 
 -- no undefined bit stands in the CoE details, nor in the flags
 unfoldable pub generalAdmits : SiiGeneral → Bool
 generalAdmits g = ltb (g .«coe_details») coeBelow && ltb (g .flags) flagsBelow
-
-abbrev pub bit : Bool → ℕ
-bit true = 1
-bit false = 0
 
 abbrev pub generalValues : SiiGeneral → List ℕ
 generalValues g =
@@ -84,3 +97,29 @@ needed (refuses n l) = refuses n l
 
 unfoldable pub generalSaid : List ℕ → Said
 generalSaid image = needed (generalFound image)
+
+-- ---- by ETG2010's places
+
+-- a field of the category from p to end: its bytes are read exactly
+unfoldable pub wordIn : List ℕ → Field → ℕ → ℕ → Said
+wordIn image f p end = pick (leb (p + start f + width f) end) (gives (field image p f ∷ [])) (refuses 2 [])
+
+-- .. of General, which is needed
+unfoldable pub generalWord : List ℕ → Field → Said
+generalWord image f = on2 (needed (categorySaid image numbers.general)) (wordIn image f)
+
+-- the physical memory address (ETG2010 Table 7)
+unfoldable pub addressSaid : List ℕ → Said
+addressSaid image = generalWord image physicalMemoryAddress
+
+-- the kinds of the ports (ETG2010 Table 7)
+abbrev pub portValues : PhysicalPorts → List ℕ
+portValues p = p .port0 ∷ p .port1 ∷ p .port2 ∷ p .port3 ∷ []
+
+unfoldable pub kindsOf : Said → Said
+kindsOf (gives l) = gives (portValues (portsOf (getD l 0 0)))
+kindsOf absent = absent
+kindsOf (refuses n l) = refuses n l
+
+unfoldable pub portsSaid : List ℕ → Said
+portsSaid image = kindsOf (generalWord image physicalPort)

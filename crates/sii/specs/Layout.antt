@@ -1,4 +1,5 @@
--- Where the fields of the SII's fixed area and of its category General lie. Nothing else says an offset. Definitions only.
+-- Where the fields of the SII's fixed area and of its category General lie. Nothing else says an offset but
+-- src/layout.rt, once and under the same name. Definitions only.
 use Prim.Native.Nat.{ℕ, _+_, _*_}
 use mathlib.Core.List.{List}
 use Rattle.wire.specs.Bytes.{byteAt, le16, le32}
@@ -15,11 +16,24 @@ start (byte k) = k
 start (word k) = k
 start (long k) = k
 
+-- how many bytes it has, and the first byte behind it
+abbrev pub width : Field → ℕ
+width (byte k) = 1
+width (word k) = 2
+width (long k) = 4
+
+abbrev pub past : Field → ℕ
+past f = start f + width f
+
 -- what a field of the record at p holds
 abbrev pub field : List ℕ → ℕ → Field → ℕ
 field image p (byte k) = byteAt image (p + k)
 field image p (word k) = le16 image (p + k)
 field image p (long k) = le32 image (p + k)
+
+-- under this bound the places that private functions are given, so that no sum of them passes 32 bits; an image ends far before it
+abbrev pub placeMost : ℕ
+placeMost = 1000000
 
 -- ---- the fixed area (ETG2010 Table 2, ETG1000.6 Table 16), whose addresses count words of 16 bits
 
@@ -68,8 +82,13 @@ mailboxProtocol = byte (atWord 0x001c)
 abbrev pub memorySize : Field
 memorySize = word (atWord 0x003e)
 
--- ---- the category General (ETG2010 Table 7, ETG1000.6 Table 21), so far as types.rs decodes it
+-- 1,024 bits
+abbrev pub unitBytes : ℕ
+unitBytes = 128
 
+-- ---- the category General (ETG2010 Table 7, ETG1000.6 Table 21)
+
+-- the bytes that types.rs decodes; ETG2010 has 32
 abbrev pub generalBytes : ℕ
 generalBytes = 18
 
@@ -102,12 +121,19 @@ generalFlags = byte 0x0b
 abbrev pub currentOnEBus : Field
 currentOnEBus = word 0x0c
 
--- four bits a port, port 0 in the lowest
+-- the ports and the physical memory address where types.rs decodes them, two bytes before their place in ETG2010
+abbrev pub portsOfTypes : Field
+portsOfTypes = word 0x0e
+
+abbrev pub addressOfTypes : Field
+addressOfTypes = word 0x10
+
+-- .. and in ETG2010 Table 7, which has a second group index before them: four bits a port, port 0 in the lowest
 abbrev pub physicalPort : Field
-physicalPort = word 0x0e
+physicalPort = word 0x10
 
 abbrev pub physicalMemoryAddress : Field
-physicalMemoryAddress = word 0x10
+physicalMemoryAddress = word 0x12
 
 -- ---- what a type admits: a set of flags has the bits from 0 up to a bound, and no other
 
@@ -122,3 +148,7 @@ coeBelow = 0x40
 -- General's flags: SafeOp, no LRW, mailbox data link layer, identification by AL status, by physical memory
 abbrev pub flagsBelow : ℕ
 flagsBelow = 0x20
+
+-- the last kind of a port that is listed (types.rs, `PortStatus`): not used, MII, reserved, EBus, fast hot connect
+abbrev pub portStatusLast : ℕ
+portStatusLast = 4

@@ -3,3 +3,4 @@ pub mod Fixed
 pub mod General
 pub mod Answers
 pub mod Alias
+pub mod ReadsOut

@@ -18,7 +18,8 @@ use Rattle.spread.specs.Row.{zeroed, Run, stopped, rowFrom, roomIn, Outc
 use Rattle.created_frame.proofs.Whole.{length-after-rest}
 use Rattle.spread.proofs.Push.{zeroed-length, push-none}
 use Rattle.spread.proofs.Going.{area-in, row-more, row-stop}
-use Rattle.spread.proofs.Laws.{Lawful, law, out, run, bounds, reaches, fits, ways}
+use Rattle.spread.specs.Demand.{Bounds}
+use Rattle.spread.proofs.Laws.{law, out, run, bounds, reaches, fits, ways}
 
 -- ---- the areas past the answer
 
@@ -68,12 +69,12 @@ module _ (row : List ℕ) (size : ℕ) (first : Builder) (index command address 
   -- THEOREM: areas past the answer aren't touched, whatever the first area held
   pub past-kept : Kept size row (out row size first index command address image .run)
   past-kept =
-      ways row size first index command address image (λ (o : Outcome). Kept size row (o .run)) (λ p. kept-none size row index) (λ p q. kept-none size row index) (λ p q r. kept-none size row index)
+      ways row size first index command address image (λ (o : Outcome). Kept size row (o .run)) (λ p. kept-none size row _) (λ p q. kept-none size row _) (λ p q r. kept-none size row _)
       (λ p q r. (let f = law (length row) size first command (length image) p in
       row-kept size command address (length row / size) (take size row) first index 0 row image
       (length-take-le size row (whole-fits f)) (omega (arith, f .row-whole))))
     where
-      whole-fits : Lawful (length row) size first command (length image) → size ≤ length row
+      whole-fits : Bounds (length row) size first command (length image) → size ≤ length row
       whole-fits f = omega (arith, area-in 0 (length row / size) size (length row) (f .areas-some) (f .row-whole))
 
   module _ (l : bounds row size first index command address image ≡ true) (a : reaches row size first index command address image ≡ true) where
@@ -97,7 +98,7 @@ module _ (row : List ℕ) (size : ℕ) (first : Builder) (index command address 
       (λ p e. absurd (gives-none _ _ _ e)) (λ p q e. absurd (gives-none _ _ _ e)) (λ p q r e. absurd (gives-none _ _ _ e))
       (λ p q r e. (let f = law (length row) size first command (length image) p in first-left (length row / size) (f .areas-some) (f .row-whole) f))
     where
-      first-left : (n : ℕ) → 1 ≤ n → n * size ≡ length row → Lawful (length row) size first command (length image)
+      first-left : (n : ℕ) → 1 ≤ n → n * size ≡ length row → Bounds (length row) size first command (length image)
           → let r = rowFrom size command address n (take size row) first index 0 row image in
           (take size (r .areas) ≡ take size row) × ((bs : List Builder) × (r .states ≡ first ∷ bs))
       first-left zero h e f = absurd (omega arith)

@@ -1,22 +1,23 @@
 -- Laws of the rule: what `lawful` means, and each way out of the call.
 use mathlib.Core.Path.{_≡_, refl, sym, ap, _∙_}
-use mathlib.Core.Bool.{Bool, true, false}
+use mathlib.Core.Bool.{Bool, true, false, _&&_}
 use mathlib.Core.List.{List, []}
 use Prim.Native.Nat.{ℕ, _+_, _*_, _/_, _%_, _≤_}
+use native.Mathlib.Omega.{arith}
 use native.Mathlib.Nat.{div-add-mod', add-zero}
-use borrow.Author.Tests.{leb-true, eqb-true}
+use borrow.Author.Tests.{leb-true, le-leb, eqb-true, eq-eqb}
 use lib.Dec.{leb}
 use lib.ListN.{length, take, replicate}
 use Rattle.refusal.specs.Said.{saidOf}
 use Rattle.refusal.specs.declared.Refusal.{Refusal}
 use Rattle.refusal.proofs.Tests.{both}
-use Rattle.pdu.specs.Pdu.{areaMost}
 use Rattle.created_frame.specs.declared.Builder.{Builder}
-use Rattle.created_frame.specs.Frame.{sound, fresh}
+use Rattle.created_frame.specs.Frame.{fresh}
 use Rattle.spread.specs.declared.Spreading.{Spreading}
 use Rattle.spread.specs.declared.SpreadAnswer.the-variants.{Last, No}
-use Rattle.spread.specs.Answers.{saidLast}
-use Rattle.spread.specs.Row.{areasMost, imageMost, commandLeast, commandLast, addressEnd, Run, rowFrom, lawful, roomIn, padded, Outcome, done, no, spreadOf}
+use Rattle.spread.specs.Answers.{Promised}
+use Rattle.spread.specs.Row.{addressEnd, Run, stopped, rowFrom, lawful, roomIn, padded, Outcome, done, no, spreadOf}
+use Rattle.spread.specs.Demand.{Bounds}
 
 pub padded-none : padded [] ≡ replicate 32 fresh
 unfolding padded
@@ -24,23 +25,12 @@ padded-none = refl
 
 -- ---- what is not refused as 14
 
-pub record Lawful (total size : ℕ) (first : Builder) (command given : ℕ) : Type 0 where
-  pub size-some : 1 ≤ size
-  pub size-most : size ≤ areaMost
-  pub row-whole : total / size * size ≡ total
-  pub areas-some : 1 ≤ total / size
-  pub areas-most : total / size ≤ areasMost
-  pub given-most : given ≤ imageMost
-  pub command-least : commandLeast ≤ command
-  pub command-most : command ≤ commandLast
-  pub first-sound : sound size first ≡ true
-
 whole-rows : (total size : ℕ) → total % size ≡ 0 → total / size * size ≡ total
 whole-rows total size e =
     let d : total / size * size + total % size ≡ total = div-add-mod' total size in
     sym (add-zero (total / size * size)) ∙ ap (λ (z : ℕ). total / size * size + z) (sym e) ∙ d
 
-pub law : (total size : ℕ) (first : Builder) (command given : ℕ) → lawful total size first command given ≡ true → Lawful total size first command given
+pub law : (total size : ℕ) (first : Builder) (command given : ℕ) → lawful total size first command given ≡ true → Bounds total size first command given
 unfolding lawful
 law total size first command given e =
     let a = both _ _ e in
@@ -63,6 +53,21 @@ law total size first command given e =
       first-sound = a .1;
     }
 
+-- .. and the other way
+no-rest : (q m total : ℕ) → q + m ≡ total → q ≡ total → m ≡ 0
+no-rest q m total d e = omega arith
+
+and-so : {a b : Bool} → a ≡ true → b ≡ true → a && b ≡ true
+and-so {a} {b} p q = rw (p, q) refl
+
+pub bounds-lawful : (total size : ℕ) (first : Builder) (command given : ℕ) → Bounds total size first command given → lawful total size first command given ≡ true
+unfolding lawful
+bounds-lawful total size first command given b =
+    let whole : total % size ≡ 0 = no-rest (total / size * size) (total % size) total (div-add-mod' total size) (b .row-whole) in
+    and-so (and-so (and-so (and-so (and-so (and-so (and-so (and-so
+    (le-leb _ _ (b .size-some)) (le-leb _ _ (b .size-most))) (eq-eqb _ _ whole)) (le-leb _ _ (b .areas-some))) (le-leb _ _ (b .areas-most)))
+    (le-leb _ _ (b .given-most))) (le-leb _ _ (b .command-least))) (le-leb _ _ (b .command-most))) (b .first-sound)
+
 -- ---- the ways out
 
 module _ (row : List ℕ) (size : ℕ) (first : Builder) (index command address : ℕ) (image : List ℕ) where
@@ -80,10 +85,6 @@ module _ (row : List ℕ) (size : ℕ) (first : Builder) (index command address 
 
   abbrev pub fits : Bool
   fits = leb (length image) (roomIn (length row / size) size (first .used))
-
-  -- what the call promises of a result and a row
-  abbrev pub Met : Spreading → List ℕ → Type 0
-  Met r ys = (saidLast (r .answer) ≡ out .said) × (((r .states ≡ padded (out .run .states)) × (r .next ≡ out .run .next)) × (ys ≡ out .run .areas))
 
   pub refused-14 : bounds ≡ false → out ≡ no 14 row index
   unfolding spreadOf
@@ -116,10 +117,11 @@ module _ (row : List ℕ) (size : ℕ) (first : Builder) (index command address 
       go true true false p q r = rw (refused-13 p q r) (c p q r)
       go true true true p q r = rw (is-done p q r) (d p q r)
 
-  pub met-no : (r : Spreading) (x : Refusal) → out ≡ record { said = saidOf x; run = record { areas = row; states = []; next = index } }
-      → r ≡ record { answer = No x; states = padded []; next = index } → Met r row
-  met-no r x e q = rw (e, q) (refl, ((refl, refl), refl))
+  -- what each leaves is what is promised
+  pub met-no : (r : Spreading) (x : Refusal) (ys : List ℕ) (n : ℕ) → out ≡ record { said = saidOf x; run = stopped ys n }
+      → r ≡ record { answer = No x; states = padded []; next = n } → Promised row size first index command address image r ys
+  met-no r x ys n e q = rw (e, q) (refl, ((refl, refl), refl))
 
   pub met-done : (r : Spreading) (ys : List ℕ) → out ≡ done run
-      → r .answer ≡ Last (length (run .states)) → (r .states ≡ padded (run .states)) × (r .next ≡ run .next) → ys ≡ run .areas → Met r ys
+      → r .answer ≡ Last (length (run .states)) → (r .states ≡ padded (run .states)) × (r .next ≡ run .next) → ys ≡ run .areas → Promised row size first index command address image r ys
   met-done r ys e a s w = rw (e, a) (refl, (s, w))

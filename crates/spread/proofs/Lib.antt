@@ -7,5 +7,5 @@ pub mod Plan
 pub mod Greedy
 pub mod Unique
 pub mod Theorem
+pub mod Demand
 pub mod Kept
-pub mod Bench

@@ -1,35 +1,30 @@
--- Demand 3, of the rule and then of the call: the run carries out the greedy plan, its areas are laid with the plan's PDUs, and these read back as the plan's pieces.
+-- What a spreading is, of the rule: the run carries out the greedy plan, its areas are laid with the plan's PDUs, and these read back as the plan's pieces.
 use mathlib.Core.Path.{_≡_, refl, sym, ap, _∙_}
-use mathlib.Core.Bool.{true, false≢true}
+use mathlib.Core.Bool.{true}
 use mathlib.Core.List.{List, [], _∷_, _++_}
 use Prim.Native.Nat.{ℕ, _+_, _-_, _*_, _/_, _≤_}
 use native.Mathlib.Omega.{arith}
 use native.Mathlib.Nat.{sub-zero, mul-le-mul-right}
 use borrow.Author.Tests.{leb-true, le-leb}
 use lib.ListN.{length, take, drop, length-take, length-append, length-drop}
-use lib.Seq.{take-take, take-at, drop-at, length-take-le}
-use Rattle.refusal.specs.Said.{Said, gives, refuses, numberOf, valuesOf}
+use lib.Seq.{take-take, drop-at, length-take-le}
+use Rattle.refusal.specs.Said.{Said, gives, refuses}
 use Rattle.refusal.proofs.Unique.{gives-none}
-use Rattle.refusal.specs.declared.Refusal.{Refusal}
-use Rattle.refusal.specs.declared.Refusal.the-variants.{NoRoom}
 use Rattle.pdu.specs.Pdu.{Pdu}
 use Rattle.cuts.specs.Cut.{Piece, Permitted, lastArea}
 use Rattle.cuts.specs.Greedy.{greedy}
 use Rattle.cuts.proofs.Laws.{rising-last, last-most, free-later}
 use Rattle.cuts.proofs.Greedy.{carried, carries, greedy-best}
 use Rattle.created_frame.specs.declared.Builder.{Builder}
-use Rattle.created_frame.specs.Built.{Ours, Built}
-use Rattle.created_frame.proofs.Built.{ours-built, built-length, built-read, built-payloads}
-use Rattle.spread.specs.declared.Spreading.{Spreading}
-use Rattle.spread.specs.declared.SpreadAnswer.the-variants.{Last, No}
-use Rattle.spread.specs.Row.{addressEnd, Run, stopped, freeIn, roomIn, padded, Outcome, spreadOf}
+use Rattle.created_frame.specs.Built.{Built}
+use Rattle.created_frame.proofs.Built.{built-length, built-read, built-payloads}
+use Rattle.spread.specs.Row.{addressEnd, Run, stopped, freeIn, roomIn, Outcome, spreadOf}
 use Rattle.spread.specs.Laid.{laid, statesOf, newsOf, indexPast, Fitting}
 use Rattle.spread.specs.ReadBack.{frameOf, framesOf, readBack}
 use Rattle.spread.specs.Theorem.{back, Carries, Spreads}
-use Rattle.spread.specs.Answers.{saidLast}
-use Rattle.spread.proofs.Laws.{Lawful, law, out, run, bounds, reaches, fits, Met, ways}
+use Rattle.spread.specs.Demand.{Bounds, Cut}
+use Rattle.spread.proofs.Laws.{law, out, run, bounds, reaches, fits, ways}
 use Rattle.spread.proofs.Going.{area-in}
-use Rattle.spread.proofs.Unique.{answer-unique}
 use Rattle.spread.proofs.Laid.{count-states, length-laid, laid-accepted, all-built, laid-back, laid-earlier}
 use Rattle.spread.proofs.Plan.{news-length, news-back, carriedBy, carried-whole, carried-pieces, carried-numbered, carried-count, fitting}
 use Rattle.spread.proofs.Greedy.{Laid, run-laid}
@@ -78,11 +73,7 @@ module _ (row : List ℕ) (size : ℕ) (first : Builder) (index command address 
   abbrev free : ℕ → ℕ
   free = freeIn size (first .used)
 
-  -- a permitted cutting of the image over the row
-  abbrev pub Cut : List Piece → Type 0
-  Cut ps = Permitted (freeIn size (first .used)) (length row / size) (length image) ps
-
-  abbrev ours : List Piece
+  abbrev pub ours : List Piece
   ours = greedy (freeIn size (first .used)) (length row / size) (length image)
 
   abbrev runs : Run
@@ -91,17 +82,18 @@ module _ (row : List ℕ) (size : ℕ) (first : Builder) (index command address 
   abbrev told : Said
   told = spreadOf row size first index command address image .said
 
-  room-cut : fits row size first index command address image ≡ true → Cut ours
+  -- there is room exactly if there is a permitted cutting
+  pub room-cut : fits row size first index command address image ≡ true → Cut row size first image ours
   unfolding roomIn
   room-cut f = carried free (length row / size) (length image) (leb-true _ _ f)
 
-  cut-room : (ps : List Piece) → Cut ps → fits row size first index command address image ≡ true
+  pub cut-room : (ps : List Piece) → Cut row size first image ps → fits row size first index command address image ≡ true
   unfolding roomIn
   cut-room ps c = le-leb _ _ (carries free (length row / size) (length image) ps c)
 
   module _ (l : bounds row size first index command address image ≡ true) (a : reaches row size first index command address image ≡ true) (f : fits row size first index command address image ≡ true)
       (olds : List Pdu) (h : Built olds (take size row) first) where
-    facts : Lawful (length row) size first command (length image)
+    facts : Bounds (length row) size first command (length image)
     facts = law (length row) size first command (length image) l
 
     fills : size ≤ length row
@@ -150,60 +142,15 @@ module _ (row : List ℕ) (size : ℕ) (first : Builder) (index command address 
 
   -- ---- THE THEOREMS, of the rule
 
-  -- an answer that is no refusal spreads the image
+  -- an answer that is no refusal spreads the image, where the first area holds PDUs and zeros
   pub answered-built : (olds : List Pdu) (k : ℕ) → Built olds (take size row) first → told ≡ gives (k ∷ []) → Spreads row size first index command address image olds (out row size first index command address image .run) k
   answered-built olds k h =
       ways row size first index command address image (λ (o : Outcome). o .said ≡ gives (k ∷ []) → Spreads row size first index command address image olds (o .run) k)
       (λ p e. absurd (gives-none _ _ _ e)) (λ p q e. absurd (gives-none _ _ _ e)) (λ p q r e. absurd (gives-none _ _ _ e))
       (λ p q r e. (let v : length (runs .states) ≡ k = cc in rw (← v) (spreads p q r olds h)))
 
-  -- .. where the first area is as our builder left it
-  pub answered : (olds : List Pdu) (k : ℕ) → Ours olds (take size row) first → told ≡ gives (k ∷ []) → Spreads row size first index command address image olds (out row size first index command address image .run) k
-  answered olds k o = answered-built olds k (ours-built o)
-
   -- a refusal changes nothing
   pub unchanged : (number : ℕ) (l : List ℕ) → told ≡ refuses number l → out row size first index command address image .run ≡ stopped row index
   unchanged number l =
       ways row size first index command address image (λ (o : Outcome). o .said ≡ refuses number l → o .run ≡ stopped row index)
       (λ p e. refl) (λ p q e. refl) (λ p q r e. refl) (λ p q r e. absurd (gives-none _ _ _ (sym e)))
-
-  -- it is refused with 13 exactly if, arguments and addresses allowing, no permitted cutting exists
-  pub no-room : (l : List ℕ) → told ≡ refuses 13 l → (ps : List Piece) → Cut ps → ⊥
-  no-room l told-13 ps c =
-      ways row size first index command address image (λ (o : Outcome). o .said ≡ refuses 13 l → ⊥)
-      (λ p e. (let z : _≡_ {A = ℕ} 14 13 = cc in omega arith)) (λ p q e. (let z : _≡_ {A = ℕ} 1 13 = cc in omega arith))
-      (λ p q r e. false≢true (sym r ∙ cut-room ps c)) (λ p q r e. gives-none _ _ _ (sym e)) told-13
-
-  pub room-lacks : bounds row size first index command address image ≡ true → reaches row size first index command address image ≡ true
-      → ((ps : List Piece) → Cut ps → ⊥) → told ≡ refuses 13 []
-  room-lacks l a none =
-      ways row size first index command address image (λ (o : Outcome). o .said ≡ refuses 13 [])
-      (λ p. absurd (false≢true (sym p ∙ l))) (λ p q. absurd (false≢true (sym q ∙ a))) (λ p q r. refl) (λ p q r. absurd (none ours (room-cut r)))
-
-  -- ---- THE THEOREMS, of the call: r is its result, and ys the row as it leaves it
-
-  module _ (r : Spreading) (ys : List ℕ) (met : Met row size first index command address image r ys) where
-    pub call-spreads-built : (olds : List Pdu) (k : ℕ) → Built olds (take size row) first → r .answer ≡ Last k
-        → Spreads row size first index command address image olds (record { areas = ys; states = take k (r .states); next = r .next }) k
-    unfolding padded
-    call-spreads-built olds k h e =
-        let s = answered-built olds k h (sym (met .0) ∙ ap saidLast e) in
-        let l : length (out row size first index command address image .run .states) ≡ k = s .carries .counted ∙ ap (lastArea 0) (sym (s .carries .plan)) ∙ s .last in
-        let t : take k (r .states) ≡ out row size first index command address image .run .states = ap (take k) (met .1 .0 .0) ∙ take-at _ _ k l in
-        rw (t, met .1 .0 .1, met .1 .1) s
-
-    pub call-spreads : (olds : List Pdu) (k : ℕ) → Ours olds (take size row) first → r .answer ≡ Last k
-        → Spreads row size first index command address image olds (record { areas = ys; states = take k (r .states); next = r .next }) k
-    call-spreads olds k o = call-spreads-built olds k (ours-built o)
-
-    pub call-refused : (x : Refusal) → r .answer ≡ No x → (r .states ≡ padded []) × (r .next ≡ index) × (ys ≡ row)
-    call-refused x e =
-        let u : out row size first index command address image .run ≡ stopped row index = unchanged (numberOf x) (valuesOf x) (sym (met .0) ∙ ap saidLast e) in
-        (met .1 .0 .0 ∙ ap (λ (z : Run). padded (z .states)) u, met .1 .0 .1 ∙ ap (λ (z : Run). z .next) u, met .1 .1 ∙ ap (λ (z : Run). z .areas) u)
-
-    pub call-no-room : r .answer ≡ No NoRoom → (ps : List Piece) → Cut ps → ⊥
-    call-no-room e = no-room [] (sym (met .0) ∙ ap saidLast e)
-
-    pub call-room-lacks : bounds row size first index command address image ≡ true → reaches row size first index command address image ≡ true
-        → ((ps : List Piece) → Cut ps → ⊥) → r .answer ≡ No NoRoom
-    call-room-lacks l a none = answer-unique (r .answer) (No NoRoom) (refuses 13 []) (met .0 ∙ room-lacks l a none) refl

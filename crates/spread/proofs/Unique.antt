@@ -10,7 +10,7 @@ use Rattle.created_frame.specs.declared.Builder.{Builder}
 use Rattle.spread.specs.declared.SpreadAnswer.{SpreadAnswer}
 use Rattle.spread.specs.declared.SpreadAnswer.the-variants.{Last, No}
 use Rattle.spread.specs.declared.Spreading.{Spreading}
-use Rattle.spread.specs.Answers.{saidLast}
+use Rattle.spread.specs.Answers.{saidLast, Promised}
 
 unfoldable answerOf : Said → SpreadAnswer
 answerOf (gives l) = Last (getD l 0 0)
@@ -25,15 +25,13 @@ answer-back (No x) = ap No (back x)
 pub answer-unique : (a b : SpreadAnswer) (s : Said) → saidLast a ≡ s → saidLast b ≡ s → a ≡ b
 answer-unique = unique saidLast answerOf answer-back
 
--- what is promised of one result of `spread`
-abbrev pub SpreadGives : Said → List Builder → ℕ → Spreading → Type 0
-SpreadGives s bs n r = (saidLast (r .answer) ≡ s) × ((r .states ≡ bs) × (r .next ≡ n))
-
-pub spread-unique : (s : Said) (bs : List Builder) (n : ℕ) (x y : Spreading) → SpreadGives s bs n x → SpreadGives s bs n y → x ≡ y
-spread-unique s bs n x y p q =
-    let e : x .answer ≡ y .answer = answer-unique (x .answer) (y .answer) s (p .0) (q .0) in
-    let f : x .states ≡ y .states = p .1 .0 ∙ sym (q .1 .0) in
-    let g : x .next ≡ y .next = p .1 .1 ∙ sym (q .1 .1) in
+-- two results of the same arguments, of one contract
+pub spread-unique : (row : List ℕ) (size : ℕ) (first : Builder) (index command address : ℕ) (image : List ℕ) (x y : Spreading) (xs ys : List ℕ)
+    → Promised row size first index command address image x xs → Promised row size first index command address image y ys → x ≡ y
+spread-unique row size first index command address image x y xs ys p q =
+    let e : x .answer ≡ y .answer = answer-unique (x .answer) (y .answer) _ (p .0) (q .0) in
+    let f : x .states ≡ y .states = p .1 .0 .0 ∙ sym (q .1 .0 .0) in
+    let g : x .next ≡ y .next = p .1 .0 .1 ∙ sym (q .1 .0 .1) in
     ap (λ (z : SpreadAnswer). record { answer = z; states = x .states; next = x .next }) e
     ∙ ap (λ (z : List Builder). record { answer = y .answer; states = z; next = x .next }) f
     ∙ ap (λ (z : ℕ). record { answer = y .answer; states = y .states; next = z }) g

@@ -1,4 +1,4 @@
--- An image spread over a row of areas of one size (document 01, 'Frames', second paragraph): what is said, and what stands in the row. Definitions only.
+-- An image spread over a row of areas of one size (RULES, spreading): what is said, and what stands in the row. Definitions only.
 use mathlib.Core.Path.{_≡_}
 use Prim.Native.Nat.{ℕ, zero, suc, _+_, _*_, _-_, _/_, _%_, _≤_}
 use mathlib.Core.Bool.{Bool, true, _&&_}

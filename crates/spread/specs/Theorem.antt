@@ -1,4 +1,4 @@
--- Demand 3: what a spreading is that is not refused. Definitions only.
+-- RULES, demand 3: what a spreading is that is not refused. Definitions only.
 use mathlib.Core.Path.{_≡_}
 use Prim.Native.Nat.{ℕ, _*_, _/_, _≤_}
 use mathlib.Core.List.{List, _∷_, _++_}

@@ -1,5 +1,5 @@
-// A process image spread over a row of areas of one size: one logical PDU for each area that has room (document 01, 'Frames', second paragraph).
-// The Rust leaves this to its callers. The definitions are in specs/Row.antt; what holds of them, demand 3, in specs/Theorem.antt.
+// A process image spread over a row of areas of one size: one logical PDU for each area that has room (RULES, spreading).
+// The Rust leaves this to its callers. The rule is specs/Row.antt, and the contract `Promised` says that the call follows it; what that comes to is one statement, specs/Demand.antt.
 use created_frame::Builder;
 use created_frame::PDU_OVERHEAD_BYTES;
 use created_frame::Rest;
@@ -14,9 +14,9 @@ ghost use Rattle.wire.specs.Bytes.{overlay};
 ghost use Rattle.pdu.specs.Pdu.{areaMost};
 ghost use Rattle.created_frame.specs.Frame.{fresh, restPushed, restBuilder, restNext, afterRest};
 ghost use Rattle.created_frame.specs.Answers.{saidRest};
-ghost use Rattle.spread.specs.Answers.{saidLast, firstOf};
+ghost use Rattle.spread.specs.Answers.{firstOf, Promised};
 ghost use Rattle.spread.specs.declared.SpreadAnswer.the-variants.{Last, No};
-ghost use Rattle.spread.specs.Row.{areasMost, zeroed, rowFrom, lawful, roomIn, padded, spreadOf, Fillable};
+ghost use Rattle.spread.specs.Row.{areasMost, zeroed, rowFrom, lawful, roomIn, padded, Fillable};
 
 const AREAS_MOST: usize = 32;
 
@@ -56,10 +56,7 @@ pub fn spread(
     address: u32,
     image: &[u8],
 ) -> Spreading
-    ensures answer { λ r. ⌜ saidLast (r .answer) ≡ spreadOf (now (areas .entry)) size first index command address (now (image .entry)) .said ⌝ }
-    ensures state { λ r. ⌜ (r .states ≡ padded (spreadOf (now (areas .entry)) size first index command address (now (image .entry)) .run .states))
-        × (r .next ≡ spreadOf (now (areas .entry)) size first index command address (now (image .entry)) .run .next) ⌝ }
-    ensures whole { λ _. ⌜ now (areas .exit) ≡ spreadOf (now (areas .entry)) size first index command address (now (image .entry)) .run .areas ⌝ }
+    ensures { λ r. ⌜ Promised (now (areas .entry)) size first index command address (now (image .entry)) r (now (areas .exit)) ⌝ }
 {
     let total = areas.len();
     let given = image.len();

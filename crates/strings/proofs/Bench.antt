@@ -6,10 +6,10 @@ use lib.ListN.{replicate}
 use Rattle.refusal.specs.Said.{gives, absent, refuses, on2, on3}
 use Rattle.wire.specs.Bytes.{byteAt, span, overlay}
 use Rattle.eeprom.specs.Image.{within, fine}
-use Rattle.eeprom.specs.Range.{newSaid, byteIn, byteSaid, skipIn, skipSaid}
+use Rattle.eeprom.specs.Range.{newSaid, byteIn, byteSaid, skipIn, skipSaid, exactSaid}
 use Rattle.category.specs.Category.{among, counted, decided, stepped, searchOver, searchFrom, searched, categorySaid}
 use Rattle.sii.specs.General.{listed, generalOf, generalAdmits, generalIn, generalFound, needed, generalSaid}
-use Rattle.strings.specs.Strings.{stringPast, passedOne, passed, fitted, stringHere, stringBehind, stringIn, soughtAt, ascii, shown, textSaid, fits, bounded, textFor, stringSaid, lengthSaid, roomAfter}
+use Rattle.strings.specs.Strings.{stringPast, passedOne, passed, onExact, fitted, stringHere, stringBehind, stringIn, soughtAt, ascii, shown, textSaid, fits, bounded, textFor, stringSaid, lengthSaid, roomAfter}
 use Rattle.strings.specs.Names.{onGeneral, stringBy, nameSaid, descriptionSaid}
 
 -- a strings category of four words
@@ -27,8 +27,8 @@ pub record Cases : Type 0 where
 
 pub cases : Cases
 unfolding
-    twoStrings on2 on3 byteAt span overlay within fine newSaid byteIn byteSaid skipIn skipSaid among counted decided stepped searchOver searchFrom searched categorySaid
-    stringPast passedOne passed fitted stringHere stringBehind stringIn soughtAt ascii shown textSaid fits bounded textFor stringSaid lengthSaid roomAfter
+    twoStrings on2 on3 byteAt span overlay within fine newSaid byteIn byteSaid skipIn skipSaid exactSaid among counted decided stepped searchOver searchFrom searched categorySaid
+    stringPast passedOne passed onExact fitted stringHere stringBehind stringIn soughtAt ascii shown textSaid fits bounded textFor stringSaid lengthSaid roomAfter
 cases = record { long = refl; zero = refl; wide = refl; kept = refl }
 
 -- General of so many words, with order index 1, name index 2 and these flags, then the strings
@@ -53,8 +53,8 @@ pub record Named : Type 0 where
 
 pub names : Named
 unfolding
-    twoStrings named on2 on3 byteAt span within fine newSaid byteIn byteSaid skipIn skipSaid among counted decided stepped searchOver searchFrom searched categorySaid
+    twoStrings named on2 on3 byteAt span within fine newSaid byteIn byteSaid skipIn skipSaid exactSaid among counted decided stepped searchOver searchFrom searched categorySaid
     listed generalOf generalAdmits generalIn generalFound needed generalSaid
-    stringPast passedOne passed fitted stringHere stringBehind stringIn soughtAt ascii shown textSaid fits bounded textFor stringSaid
+    stringPast passedOne passed onExact fitted stringHere stringBehind stringIn soughtAt ascii shown textSaid fits bounded textFor stringSaid
     onGeneral stringBy nameSaid descriptionSaid
 names = record { name = refl; description = refl; none = refl; needs = refl; short = refl; flag = refl; wide = refl; wider = refl }

@@ -11,7 +11,7 @@ use borrow.Author.Tests.{lt-ltb, ne-eqb, ltb-true, eqb-false}
 use Rattle.refusal.specs.Said.{Said, gives, absent, refuses, on2, pick}
 use Rattle.wire.specs.Bytes.{span}
 use Rattle.wire.proofs.Laws.{length-span}
-use Rattle.strings.specs.Strings.{soughtAt, ascii, shown, textSaid, fits, bounded, textFor, stringSaid}
+use Rattle.strings.specs.Strings.{soughtAt, asciiEnd, questionMark, ascii, shown, textSaid, fits, bounded, textFor, stringSaid}
 use Rattle.strings.specs.Plain.{Plain}
 use Rattle.strings.specs.Answers.{Small}
 use Rattle.strings.proofs.Laws.{length-shown, small-sought}
@@ -21,13 +21,13 @@ use Rattle.strings.proofs.Laws.{length-shown, small-sought}
 shown-plain : (l : List ℕ) → Plain (shown l)
 unfolding shown Plain ascii
 shown-plain [] = tt
-shown-plain (b ∷ l) = go (eqb b 0) (ltb b 128) refl refl (shown-plain l)
+shown-plain (b ∷ l) = go (eqb b 0) (ltb b asciiEnd) refl refl (shown-plain l)
   where
-    go : (t u : Bool) → eqb b 0 ≡ t → ltb b 128 ≡ u → Plain (shown l) → Plain (pick t (shown l) (pick u b 63 ∷ shown l))
+    go : (t u : Bool) → eqb b 0 ≡ t → ltb b asciiEnd ≡ u → Plain (shown l) → Plain (pick t (shown l) (pick u b questionMark ∷ shown l))
     go true u z a h = h
     go false true z a h =
         let n : b ≡ 0 → ⊥ = eqb-false b 0 z in
-        (omega arith, ltb-true b 128 a, h)
+        (omega arith, ltb-true b asciiEnd a, h)
     go false false z a h = (omega arith, omega arith, h)
 
 pub plain-shown : (l : List ℕ) → Plain l → shown l ≡ l
@@ -35,7 +35,7 @@ unfolding shown Plain ascii
 plain-shown [] h = refl
 plain-shown (b ∷ l) h =
     let n : eqb b 0 ≡ false = ne-eqb b 0 (λ z. omega (arith, h .0)) in
-    rw (n, lt-ltb b 128 (h .1), plain-shown l (h .2))
+    rw (n, lt-ltb b asciiEnd (h .1), plain-shown l (h .2))
 
 -- ---- what is given
 

@@ -8,17 +8,18 @@ use mathlib.Core.List.{List, [], _∷_, _++_}
 use mathlib.Core.Bool.{Bool, true, false}
 use lib.ListN.{length, getD, set, length-append}
 use lib.Dec.{eqb, ltb, leb}
-use borrow.Author.Tests.{le-ltb, eq-eqb, ne-eqb, ltb-false, leb-true}
+use borrow.Author.Tests.{lt-ltb, le-ltb, eq-eqb, ne-eqb, ltb-true, ltb-false, leb-true, leb-false}
 use Rattle.refusal.specs.Said.{Said, gives, absent, refuses, on2, on3, pick}
 use Rattle.refusal.proofs.Tests.{both}
 use Rattle.wire.specs.Bytes.{byteAt, span, overlay}
 use Rattle.wire.proofs.Laws.{span-add, length-overlay, overlay-next, overlay-none}
 use Rattle.wire.proofs.Stretch.{overlay-one}
-use Rattle.eeprom.specs.Image.{within}
-use Rattle.eeprom.specs.Range.{byteSaid}
+use Rattle.eeprom.specs.Image.{endMost, within, fine}
+use Rattle.eeprom.specs.Range.{byteIn, byteSaid, exactSaid}
+use Rattle.eeprom.proofs.Laws.{exact-gives, exact-none, exact-refuses}
 use Rattle.category.specs.Numbers.{strings}
 use Rattle.category.specs.Category.{categorySaid}
-use Rattle.strings.specs.Strings.{stringPast, passedOne, passed, fitted, stringHere, stringBehind, stringIn, soughtAt, ascii, shown, textSaid, roomMost, fits, bounded, textFor, lengthSaid, roomAfter}
+use Rattle.strings.specs.Strings.{stringPast, passedOne, passed, onExact, fitted, stringHere, stringBehind, stringIn, soughtAt, ascii, shown, textSaid, roomMost, fits, bounded, textFor, lengthSaid, roomAfter}
 use Rattle.strings.specs.Answers.{Small}
 
 -- ---- the rule of the last index
@@ -27,6 +28,65 @@ use Rattle.strings.specs.Answers.{Small}
 pub past-not : (s count : ℕ) → s < count → stringPast s count ≡ false
 unfolding stringPast
 past-not s count h = le-ltb count s (omega arith)
+
+-- ---- bytes that are read exactly
+
+-- an exact read of n bytes gives if there are no fewer before the end, and else refuses
+exact-said : (image : List ℕ) (pos end n : ℕ) → fine image end ≡ true → n ≤ end - pos → exactSaid image pos end n ≡ gives []
+exact-said image pos end zero f h = exact-none image pos end f .0
+exact-said image pos end (suc n) f h = exact-gives image pos end (suc n) f (omega arith) .0
+
+module _ (image : List ℕ) (pos end n : ℕ) (f : fine image end ≡ true) (s : Said) where
+  exact-fits : n ≤ end - pos → onExact (exactSaid image pos end n) s ≡ s
+  unfolding onExact
+  exact-fits h = rw (exact-said image pos end n f h)
+
+  exact-short : end - pos < n → onExact (exactSaid image pos end n) s ≡ refuses 2 []
+  unfolding onExact
+  exact-short h = rw (exact-refuses image pos end n f h .0)
+
+-- a string that is longer than the room, one that fits it, and one that its category cuts
+module _ (image : List ℕ) (k n pos end : ℕ) where
+  pub fitted-long : k < n → refuses 4 (k ∷ n ∷ []) ≡ fitted image k n pos end
+  unfolding fitted
+  fitted-long h = rw (lt-ltb k n h)
+
+  pub fitted-at : fine image end ≡ true → n ≤ k → n ≤ end - pos → gives (pos ∷ n ∷ []) ≡ fitted image k n pos end
+  unfolding fitted
+  fitted-at f r h = rw (le-ltb k n r) (sym (exact-fits image pos end n f (gives (pos ∷ n ∷ [])) h))
+
+  pub fitted-cut : fine image end ≡ true → n ≤ k → end - pos < n → refuses 2 [] ≡ fitted image k n pos end
+  unfolding fitted
+  fitted-cut f r h = rw (le-ltb k n r) (sym (exact-short image pos end n f (gives (pos ∷ n ∷ [])) h))
+
+-- .. a place that is given is of one that fits
+pub fitted-given : (image : List ℕ) (k n pos end : ℕ) (l : List ℕ) → fine image end ≡ true → fitted image k n pos end ≡ gives l →
+    (l ≡ pos ∷ n ∷ []) × (n ≤ k) × (n ≤ end - pos)
+fitted-given image k n pos end l f p = go (ltb k n) (leb n (end - pos)) refl refl
+  where
+    go : (t u : Bool) → ltb k n ≡ t → leb n (end - pos) ≡ u → (l ≡ pos ∷ n ∷ []) × (n ≤ k) × (n ≤ end - pos)
+    go true u a b =
+        let q = fitted-long image k n pos end (ltb-true k n a) ∙ p in
+        let z : _≡_ {A = ℕ} 0 1 = cc in
+        absurd (omega arith)
+    go false true a b =
+        let q = fitted-at image k n pos end f (ltb-false k n a) (leb-true n (end - pos) b) ∙ p in
+        (cc, ltb-false k n a, leb-true n (end - pos) b)
+    go false false a b =
+        let q = fitted-cut image k n pos end f (ltb-false k n a) (leb-false n (end - pos) b) ∙ p in
+        let z : _≡_ {A = ℕ} 0 1 = cc in
+        absurd (omega arith)
+
+-- a byte that is read leaves a range within the bounds of a call: of the rule of a byte read, that it keeps the end
+pub byte-fine : (image : List ℕ) (pos end b p e : ℕ) → gives (b ∷ p ∷ e ∷ []) ≡ byteSaid image pos end → fine image e ≡ true
+unfolding byteSaid byteIn
+byte-fine image pos end b p e h = go (fine image end) (ltb pos endMost) refl h
+  where
+    go : (t u : Bool) → fine image end ≡ t →
+        gives (b ∷ p ∷ e ∷ []) ≡ pick t (pick u (gives (byteAt image pos ∷ (pos + 1) ∷ end ∷ [])) (refuses 1 [])) (refuses 14 []) → fine image e ≡ true
+    go true true f h = let z : e ≡ end = cc in rw z f
+    go true false f h = let z : _≡_ {A = ℕ} 0 1 = cc in absurd (omega arith)
+    go false u f h = let z : _≡_ {A = ℕ} 0 1 = cc in absurd (omega arith)
 
 -- ---- passing over strings
 
@@ -79,21 +139,26 @@ small-pick : (m : ℕ) (t : Bool) (a b : Said) → Small m a → Small m b → S
 small-pick m true a b x y = x
 small-pick m false a b x y = y
 
-small-fitted : (m n p e : ℕ) → Small m (fitted m n p e)
+small-exact : (m n p : ℕ) (s : Said) → n ≤ m → Small m (onExact s (gives (p ∷ n ∷ [])))
+unfolding onExact
+small-exact m n p (gives l) h = h
+small-exact m n p absent h = tt
+small-exact m n p (refuses k v) h = tt
+
+small-fitted : (image : List ℕ) (m n p e : ℕ) → Small m (fitted image m n p e)
 unfolding fitted
-small-fitted m n p e = go (ltb m n) (leb n (e - p)) refl
+small-fitted image m n p e = go (ltb m n) refl
   where
-    go : (t u : Bool) → ltb m n ≡ t → Small m (pick t (refuses 4 (m ∷ n ∷ [])) (pick u (gives (p ∷ n ∷ [])) (refuses 2 [])))
-    go true u h = tt
-    go false true h = ltb-false m n h
-    go false false h = tt
+    go : (t : Bool) → ltb m n ≡ t → Small m (pick t (refuses 4 (m ∷ n ∷ [])) (onExact (exactSaid image p e n) (gives (p ∷ n ∷ []))))
+    go true h = tt
+    go false h = small-exact m n p (exactSaid image p e n) (ltb-false m n h)
 
 small-in : (image : List ℕ) (s m pos end : ℕ) → Small m (stringIn image s m pos end)
 unfolding stringIn stringBehind stringHere
 small-in image s m pos end =
     small-on3 m (byteSaid image pos end) _ (λ count p e.
     small-pick m (stringPast s count) absent (stringBehind image s m p e) tt
-    (small-on2 m (passed s image p e) _ (λ p e. small-on3 m (byteSaid image p e) _ (small-fitted m))))
+    (small-on2 m (passed s image p e) _ (λ p e. small-on3 m (byteSaid image p e) _ (small-fitted image m))))
 
 pub small-sought : (image : List ℕ) (index m : ℕ) → Small m (soughtAt image index m)
 unfolding soughtAt

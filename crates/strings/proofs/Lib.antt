@@ -1,5 +1,6 @@
 pub mod Laws
 pub mod Given
+pub mod Stored
 pub mod Names
 pub mod Unique
 pub mod Bench

@@ -7,10 +7,9 @@ use mathlib.Core.Bool.{Bool, true, false}
 use lib.ListN.{length}
 use borrow.Author.Tests.{le-leb}
 use Rattle.refusal.specs.Said.{Said, gives, absent, refuses, pick, on2}
-use Rattle.wire.specs.Bytes.{byteAt}
 use Rattle.category.specs.Numbers as numbers
 use Rattle.category.specs.Category.{categorySaid}
-use Rattle.sii.specs.Layout.{generalBytes}
+use Rattle.sii.specs.Layout.{field, orderIdx, nameIdx, generalBytes}
 use Rattle.sii.specs.General.{generalOf, generalAdmits, generalValues, generalIn, generalFound, needed, generalSaid}
 use Rattle.strings.specs.Strings.{fits, bounded, textSaid, textFor, soughtAt, stringSaid, lengthSaid, roomAfter}
 use Rattle.strings.specs.Names.{orderOf, nameOf, onGeneral, stringBy, nameSaid, descriptionSaid}
@@ -87,9 +86,9 @@ module _ (image : List ℕ) (k : ℕ) where
   with-general general h =
       rw h (by-string image k (gives general) orderOf general refl, by-string image k (gives general) nameOf general refl)
 
-  -- General's indices are its bytes 2 and 3
+  -- General's indices stand in its fields of the order number and of the name
   pub name-bytes : (p end : ℕ) → categorySaid image numbers.general ≡ gives (p ∷ end ∷ []) → p + generalBytes ≤ end → generalAdmits (generalOf image p) ≡ true →
-      (nameSaid image k ≡ stringSaid image (byteAt image (p + 2)) k) × (descriptionSaid image k ≡ stringSaid image (byteAt image (p + 3)) k)
+      (nameSaid image k ≡ stringSaid image (field image p orderIdx) k) × (descriptionSaid image k ≡ stringSaid image (field image p nameIdx) k)
   unfolding generalOf generalFound generalIn on2
   name-bytes p end c h a = with-general (generalValues (generalOf image p)) whole
     where

@@ -1,4 +1,4 @@
--- What each answer says on paper, in document 01's numbers and values. Definitions only.
+-- What each answer says on paper, in numbers and values (RULES, refusals). Definitions only.
 use Prim.Native.Nat.{ℕ, _≤_}
 use mathlib.Core.List.{[], _∷_}
 use lib.ListN.{getD}

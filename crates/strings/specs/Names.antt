@@ -1,4 +1,4 @@
--- Document 01, 'What is read out', device name and description: strings whose indices the category General holds
+-- RULES, strings, device name and description: strings whose indices the category General holds
 -- (ETG2010 Table 7, ETG1000.6 Table 21). Definitions only.
 use Prim.Native.Nat.{ℕ}
 use mathlib.Core.List.{List}

@@ -1,4 +1,4 @@
--- Document 01, 'What is read out', strings. The category holds a count, then for each string its length and its bytes
+-- RULES, strings. The category holds a count, then for each string its length and its bytes
 -- (ETG1000.6 Table 20). Definitions only.
 use Prim.Native.Nat.{ℕ, zero, suc, _-_}
 use mathlib.Core.List.{List, [], _∷_}
@@ -8,7 +8,7 @@ use lib.Dec.{leb, ltb, eqb}
 use Rattle.refusal.specs.Said.{Said, gives, absent, refuses, on2, on3, pick}
 use Rattle.wire.specs.Bytes.{span, overlay}
 use Rattle.eeprom.specs.Image.{within}
-use Rattle.eeprom.specs.Range.{byteSaid, skipSaid}
+use Rattle.eeprom.specs.Range.{byteSaid, skipSaid, exactSaid}
 use Rattle.category.specs.Numbers.{strings}
 use Rattle.category.specs.Category.{categorySaid}
 
@@ -27,15 +27,20 @@ unfoldable pub passed : ℕ → List ℕ → ℕ → ℕ → Said
 passed zero image pos end = gives (pos ∷ end ∷ [])
 passed (suc s) image pos end = on2 (passedOne image pos end) (passed s image)
 
+-- what follows an exact read; where it refuses, its refusal
+unfoldable pub onExact : Said → Said → Said
+onExact (gives l) s = s
+onExact absent s = absent
+onExact (refuses n v) s = refuses n v
+
 -- n bytes from pos on, for a room of k: compared with the room, then read exactly
-unfoldable pub fitted : ℕ → ℕ → ℕ → ℕ → Said
-fitted k n pos end =
-    pick (ltb k n) (refuses 4 (k ∷ n ∷ []))
-    (pick (leb n (end - pos)) (gives (pos ∷ n ∷ [])) (refuses 2 []))
+unfoldable pub fitted : List ℕ → ℕ → ℕ → ℕ → ℕ → Said
+fitted image k n pos end =
+    pick (ltb k n) (refuses 4 (k ∷ n ∷ [])) (onExact (exactSaid image pos end n) (gives (pos ∷ n ∷ [])))
 
 -- a length is read, and its bytes stand behind it
 unfoldable pub stringHere : List ℕ → ℕ → ℕ → ℕ → Said
-stringHere image k pos end = on3 (byteSaid image pos end) (fitted k)
+stringHere image k pos end = on3 (byteSaid image pos end) (fitted image k)
 
 -- .. behind s strings
 unfoldable pub stringBehind : List ℕ → ℕ → ℕ → ℕ → ℕ → Said
@@ -52,9 +57,16 @@ soughtAt image index k = pick (eqb index 0) absent (on2 (categorySaid image stri
 
 -- ---- what is made of it
 
+-- the first byte that is not ASCII, and the question mark
+abbrev pub asciiEnd : ℕ
+asciiEnd = 0x80
+
+abbrev pub questionMark : ℕ
+questionMark = 63
+
 -- a byte from 0x80 becomes a question mark
 unfoldable pub ascii : ℕ → ℕ
-ascii b = pick (ltb b 128) b 63
+ascii b = pick (ltb b asciiEnd) b questionMark
 
 -- zeros are dropped
 unfoldable pub shown : List ℕ → List ℕ

@@ -1,5 +1,5 @@
 // Strings of the SII into a lent room: `find_string`, `device_name` and `device_description` of ethercrab's subdevice/eeprom.rs.
-// Document 01, 'What is read out', decides; specs/Strings.antt and specs/Names.antt have its rules in its order.
+// RULES, strings, decides; specs/Strings.antt and specs/Names.antt have its rules in its order.
 // A string is found by reading alone, and the room is written once it is known to be readable: a refusal has touched nothing.
 use category::Found;
 use category::STRINGS;
@@ -17,17 +17,22 @@ use sii::GeneralFound;
 use sii::find_general;
 use sii::general;
 ghost use mathlib.Core.Path.{_≡_};
-ghost use mathlib.Core.List.{[], _∷_};
-ghost use Prim.Native.Nat.{_+_, _-_, _≤_, _<_};
+ghost use mathlib.Core.List.{List, [], _∷_};
+ghost use mathlib.Core.Bool.{true};
+ghost use Prim.Native.Nat.{ℕ, _+_, _-_, _≤_, _<_};
 ghost use lib.ListN.{length};
 ghost use Rattle.wire.specs.Bytes.{span, overlay};
+ghost use Rattle.eeprom.specs.Image.{endMost, fine};
 ghost use Rattle.eeprom.specs.Answers.{saidRange};
-ghost use Rattle.strings.specs.Strings.{stringPast, passedOne, passed, fitted, stringHere, stringBehind, stringIn, soughtAt, ascii, shown, textSaid, fits, stringSaid, lengthSaid, roomAfter};
+ghost use Rattle.strings.specs.Strings.{stringPast, passedOne, passed, fitted, stringHere, stringBehind, stringIn, soughtAt, ascii, shown, textSaid, roomMost, fits, stringSaid, lengthSaid, roomAfter};
 ghost use Rattle.strings.specs.Names.{nameSaid, descriptionSaid};
 ghost use Rattle.strings.specs.Answers.{saidPlace, saidString, Small};
 
 // The most bytes that a room has.
 const ROOM_MOST: usize = 255;
+
+// The first byte that is not ASCII.
+const ASCII_END: u8 = 0x80;
 
 // What a call on strings answers.
 pub enum StringAnswer {
@@ -190,9 +195,9 @@ fn here(image: &[u8], chunk: Chunk, g: Range, room: u16) -> Place
     }
 }
 
-// n bytes from pos on, for a room.
+// n bytes from pos on, for a room: an exact read of an image and a range within their bounds.
 fn fit(room: u16, n: u16, pos: Pos, end: Pos) -> Place
-    ensures { λ r. ⌜ saidPlace r ≡ fitted room n pos end ⌝ }
+    ensures { λ r. ⌜ ((image : List ℕ) → fine image end ≡ true → saidPlace r ≡ fitted image room n pos end) ⌝ }
 {
     if room < n {
         return Place::No(Refusal::StringTooLong { room, stored: n });
@@ -213,7 +218,7 @@ fn remaining(pos: Pos, end: Pos) -> Pos
 
 // The text at a place goes to the front of the room.
 fn text(image: &[u8], chunk: Chunk, place: Place, room: &mut [u8]) -> StringAnswer
-    requires { ⌜ (length (now room) ≤ 255) × Small (length (now room)) (saidPlace place) ⌝ }
+    requires { ⌜ (length (now room) ≤ roomMost) × Small (length (now room)) (saidPlace place) ⌝ }
     ensures said { λ r. ⌜ saidString r ≡ lengthSaid (textSaid (now (image .entry)) (saidPlace place)) ⌝ }
     ensures lent { λ _. ⌜ now (room .exit) ≡ roomAfter (textSaid (now (image .entry)) (saidPlace place)) (now (room .entry)) ⌝ }
 {
@@ -229,7 +234,7 @@ fn text(image: &[u8], chunk: Chunk, place: Place, room: &mut [u8]) -> StringAnsw
 
 // The text of n bytes from at on; answers its length.
 fn lay_text(image: &[u8], chunk: Chunk, at: u32, n: u32, room: &mut [u8]) -> usize
-    requires { ⌜ (at + n ≤ 4294967295) × (n ≤ length (now room)) ⌝ }
+    requires { ⌜ (at ≤ endMost) × (n ≤ length (now room)) × (length (now room) ≤ roomMost) ⌝ }
     ensures said { λ r. ⌜ r ≡ length (shown (span (now (image .entry)) at n)) ⌝ }
     ensures most { λ r. ⌜ r ≤ n ⌝ }
     ensures lent { λ _. ⌜ now (room .exit) ≡ overlay (now (room .entry)) 0 (shown (span (now (image .entry)) at n)) ⌝ }
@@ -261,5 +266,5 @@ fn put(b: u8, k: usize, room: &mut [u8]) -> usize
 fn as_ascii(b: u8) -> u8
     ensures { λ r. ⌜ r ≡ ascii b ⌝ }
 {
-    if b < 128 { b } else { b'?' }
+    if b < ASCII_END { b } else { b'?' }
 }

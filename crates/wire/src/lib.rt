@@ -1,15 +1,23 @@
 // Bytes: total reads of 8, 16 and 32 bits, low byte first, and the one loop that lays bytes over a slice.
-// What stands past a slice's end reads as 0xFF, as document 01 has it of the EEPROM image.
+// What stands past a slice's end reads as 0xFF, as it does of the EEPROM image (RULES, range).
 ghost use mathlib.Core.Path.{_≡_};
 ghost use Prim.Native.Nat.{ℕ, _+_, _*_, _≤_, _<_, min};
 ghost use lib.ListN.{length, take, replicate};
-ghost use Rattle.wire.specs.Bytes.{byteAt, le16, le32, overlay, laid};
+ghost use Rattle.wire.specs.Bytes.{bytePast, wordPast, byteAt, le16, le32, overlay, laid, bit};
+
+// What a byte reads as where there is none.
+const NO_BYTE: u8 = 255;
+
+// What the second byte of a number weighs, and the second of its two halves of 16 bits.
+const BYTE_PAST: u16 = 256;
+
+const WORD_PAST: u32 = 65536;
 
 // The byte at i.
 pub fn byte_at(s: &[u8], i: usize) -> u8
     ensures { λ r. ⌜ r ≡ byteAt (now (s .entry)) i ⌝ }
 {
-    if i < s.len() { s[i] } else { 255 }
+    if i < s.len() { s[i] } else { NO_BYTE }
 }
 
 // A place that reads as the one after i does, and so all that follow: past the end every place reads the same.
@@ -20,15 +28,15 @@ fn next(s: &[u8], i: usize) -> usize
 }
 
 fn join16(low: u8, high: u8) -> u16
-    ensures { λ r. ⌜ r ≡ low + 256 * high ⌝ }
+    ensures { λ r. ⌜ r ≡ low + bytePast * high ⌝ }
 {
-    (low as u16) + 256 * (high as u16)
+    (low as u16) + BYTE_PAST * (high as u16)
 }
 
 fn join32(low: u16, high: u16) -> u32
-    ensures { λ r. ⌜ r ≡ low + 65536 * high ⌝ }
+    ensures { λ r. ⌜ r ≡ low + wordPast * high ⌝ }
 {
-    (low as u32) + 65536 * (high as u32)
+    (low as u32) + WORD_PAST * (high as u32)
 }
 
 // The 16 bits at i.
@@ -44,6 +52,13 @@ pub fn long_at(s: &[u8], i: usize) -> u32
 {
     let second = next(s, next(s, i));
     join32(word_at(s, i), word_at(s, second))
+}
+
+// A test as a number: 1 where it holds, else 0.
+pub fn flag(b: bool) -> u64
+    ensures { λ r. ⌜ r ≡ bit b ⌝ }
+{
+    if b { 1 } else { 0 }
 }
 
 // The smaller of two.

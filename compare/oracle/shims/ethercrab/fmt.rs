@@ -1,4 +1,4 @@
-//! Stands for ethercrab's fmt.rs: its logging and unwrapping macros. Document 01 leaves logging out.
+//! Stands for ethercrab's fmt.rs: its logging and unwrapping macros. Logging is left out (RULES, forms).
 //!
 //! GUESS: the arguments of a log line are compiled but never worked out, as where the `log` crate's level is off. It matters in one place: the category
 //! search would log a header's address times 2, which overflows from word 32,766 on. A Rust that works it out panics there; this one does not.

@@ -17,7 +17,7 @@ search-requires c κs = search needs
 returns : tie.Need-returns
 unfolding categorySaid
 returns c =
-    simp (← c .before .before .before .before .image-within .ensures, c .before .before .before .if1 .taken, ← c .before .before .sought .ensures, c .before .if2 .taken) (c .search .ensures)
+    simp (← c .before .before .before .before .image-within .ensures, c .before .before .before .if1 .taken, ← c .before .before .sought .ensures, c .before .if2 .taken) (c .search .ensures .0)
 
 returns-2 : tie.Need-returns-2
 unfolding categorySaid

@@ -3,25 +3,24 @@ use borrow.Author.Needs.{needs}
 use Prim.Native.Nat.{suc, _≤_, _<_, _-_}
 use mathlib.Core.Path.{_≡_, _∙_, ap, sym}
 use native.Mathlib.Omega.{arith}
-use Rattle.category.specs.Category.{emptyMost, searchFrom, searched}
 use Rattle.category.specs.Layout.{wordMost}
 use Rattle.category.specs.Answers.{saidStep}
-use Rattle.category.proofs.Laws.{search-first, loop-done, loop-next}
+use Rattle.category.proofs.Laws.{Goes, goes-first, loop-done, loop-next}
 use Rattle.category.proofs.search.Statement.{statement}
 use Rattle.category.proofs.search.Tie as tie
 
 abbrev Inv-loop : tie.InvT-loop
 Inv-loop image chunk number word₀ empties₀ word empties =
-    (word ≤ wordMost) × (empties < emptyMost) × (searchFrom image number word empties ≡ searched image number)
+    Goes image number word empties
 
 abbrev μ-loop : tie.MeasureT-loop
 μ-loop image chunk number word₀ empties₀ word empties = suc wordMost - word
 
 loop-holds : tie.Need-loop-holds Inv-loop μ-loop
-loop-holds c = (search needs, search needs, search-first _ _)
+loop-holds c = goes-first _ _
 
 header-requires : tie.Need-header-requires Inv-loop μ-loop
-header-requires c κs = search needs
+header-requires c κs = let g = c .loop .inv in (g .inside, g .few)
 
 enum-known-f : tie.Need-enum-known-f Inv-loop μ-loop
 enum-known-f c = search needs
@@ -29,7 +28,7 @@ enum-known-f c = search needs
 returns : tie.Need-returns Inv-loop μ-loop
 returns c =
     let l = c .before .before .before .before .loop in
-    loop-done _ _ _ _ (l .inv .2) _ (ap saidStep (sym (c .before .f .given .1)) ∙ c .before .before .before .header .ensures)
+    loop-done _ _ _ _ (l .inv) _ (ap saidStep (sym (c .before .f .given .1)) ∙ c .before .before .before .header .ensures)
 
 enum-known-w : tie.Need-enum-known-w Inv-loop μ-loop
 enum-known-w c = search needs
@@ -37,13 +36,13 @@ enum-known-w c = search needs
 loop-less : tie.Need-loop-less Inv-loop μ-loop
 loop-less c =
     let l = c .before .before .before .before .loop in
-    omega (arith, loop-next _ _ _ _ (l .inv .2) _ _ (ap saidStep (sym (c .before .w .given .1)) ∙ c .before .before .before .header .ensures))
+    omega (arith, loop-next _ _ _ _ (l .inv) _ _ (ap saidStep (sym (c .before .w .given .1)) ∙ c .before .before .before .header .ensures))
 
 loop-again : tie.Need-loop-again Inv-loop μ-loop
 loop-again c =
     let l = c .before .before .before .before .loop in
-    let q = loop-next _ _ _ _ (l .inv .2) _ _ (ap saidStep (sym (c .before .w .given .1)) ∙ c .before .before .before .header .ensures) in
-    (q .1, q .2, q .3)
+    let q = loop-next _ _ _ _ (l .inv) _ _ (ap saidStep (sym (c .before .w .given .1)) ∙ c .before .before .before .header .ensures) in
+    q .1
 
 pub search-spec : {M : Type 1} → statement M
 search-spec =

@@ -1,4 +1,5 @@
 -- `clocks_in` fills place after place: the records so far and what the rest lists are the whole list.
+use Rattle.sii.specs.Layout.{placeMost}
 use Prim.Native.Nat.{_≤_, _-_}
 use mathlib.Core.Path.{ap, sym, _∙_}
 use native.Mathlib.Omega.{arith}
@@ -11,7 +12,7 @@ use Rattle.clock.proofs.clocks_in.Statement.{statement}
 use Rattle.clock.proofs.clocks_in.Tie as tie
 
 abbrev Inv-loop : tie.InvT-loop
-Inv-loop image chunk start end items₀ count₀ at₀ items count at = (at ≤ 1000000) × Going (clockAt image end) clockZero clockMost start items count at
+Inv-loop image chunk start end items₀ count₀ at₀ items count at = (at ≤ placeMost) × Going (clockAt image end) clockZero clockMost start items count at
 
 abbrev μ-loop : tie.MeasureT-loop
 μ-loop image chunk start end items₀ count₀ at₀ items count at = clockMost - count

@@ -5,7 +5,8 @@ use mathlib.Core.Path.{_≡_, sym, _∙_}
 use mathlib.Core.Bool.{true}
 use native.Mathlib.Omega.{arith}
 use Rattle.created_frame.specs.Frame.{sound, room, canPush}
-use Rattle.created_frame.proofs.Laws.{Sound, sound-facts}
+use Rattle.created_frame.specs.Bounds.{Sound}
+use Rattle.created_frame.proofs.Laws.{sound-facts}
 use Rattle.created_frame.proofs.can_push_pdu_payload.Statement.{statement}
 use Rattle.created_frame.proofs.can_push_pdu_payload.Tie as tie
 

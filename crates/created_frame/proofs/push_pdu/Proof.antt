@@ -6,7 +6,8 @@ use mathlib.Core.Bool.{true, false}
 use native.Mathlib.Omega.{arith}
 use lib.ListN.{length}
 use Rattle.created_frame.specs.Frame.{acceptable, Roomy}
-use Rattle.created_frame.proofs.Laws.{Accepted, accepted, has-room, in-largest, is-bad, is-too-long, is-done}
+use Rattle.created_frame.specs.Bounds.{InBounds}
+use Rattle.created_frame.proofs.Laws.{accepted, has-room, in-largest, is-bad, is-too-long, is-done}
 use Rattle.created_frame.proofs.push_pdu.Statement.{statement}
 use Rattle.created_frame.proofs.push_pdu.Tie as tie
 
@@ -23,7 +24,7 @@ failed c = sym (c .before .is-acceptable .ensures) ∙ not-true (c .before .is-a
 
 facts : (c : tie.Else1) →
     let a = c .before .before .before .before .before .args in
-    Accepted (length (a .area .now)) (a .b) (a .command) (length (a .bytes .now)) (a .over)
+    InBounds (length (a .area .now)) (a .b) (a .command) (length (a .bytes .now)) (a .over)
 facts c =
     let a = c .before .before .before .before .before .args in
     accepted (length (a .area .now)) (a .b) (a .command) (length (a .bytes .now)) (a .over) (passed c)

@@ -7,7 +7,8 @@ use native.Mathlib.Omega.{arith}
 use lib.ListN.{length, take}
 use lib.Seq.{length-take-le}
 use Rattle.created_frame.specs.Frame.{acceptable, Roomy}
-use Rattle.created_frame.proofs.Laws.{Accepted, accepted, has-room, in-largest, rest-bad, rest-absent, rest-done}
+use Rattle.created_frame.specs.Bounds.{InBounds}
+use Rattle.created_frame.proofs.Laws.{accepted, has-room, in-largest, rest-bad, rest-absent, rest-done}
 use Rattle.created_frame.proofs.push_pdu_slice_rest.Statement.{statement}
 use Rattle.created_frame.proofs.push_pdu_slice_rest.Tie as tie
 
@@ -24,7 +25,7 @@ failed c = sym (c .before .is-acceptable .ensures) ∙ not-true (c .before .is-a
 
 facts : (c : tie.Else1) →
     let a = c .before .before .before .before .before .args in
-    Accepted (length (a .area .now)) (a .b) (a .command) (length (a .bytes .now)) 0
+    InBounds (length (a .area .now)) (a .b) (a .command) (length (a .bytes .now)) 0
 facts c =
     let a = c .before .before .before .before .before .args in
     accepted (length (a .area .now)) (a .b) (a .command) (length (a .bytes .now)) 0 (passed c)

@@ -1,25 +1,40 @@
--- `eeprom::write_words` goes on with the run: what is left of it, from where the loop stands, is the whole run.
+-- `eeprom::write_words` comes to the closed form word by word: the loop has laid the first n bytes of the padded data, and n is no more than m words have.
 use borrow.Author.Needs.{needs}
-use Prim.Native.Nat.{_≤_, _-_, _+_}
+use Prim.Native.Nat.{ℕ, _≤_, _-_, _+_, _*_, _%_}
 use mathlib.Core.Path.{_≡_, refl, sym, ap, _∙_}
 use mathlib.Core.Logic.{⊎-elim}
-use lib.ListN.{length, drop}
+use lib.ListN.{length}
 use borrow.Author.Tests.{ltb-false}
+use Rattle.refusal.specs.Said.{Said}
+use Rattle.eeprom.specs.Answers.{saidWriting}
+use Rattle.eeprom.specs.declared.WordsWritten.{WordsWritten}
 use Rattle.eeprom.specs.Image.{endMost}
-use Rattle.eeprom.specs.Range.{words, Wrote, wrote}
-use Rattle.eeprom.proofs.Words.{wrote-end, wrote-all, wrote-next, wrote-stop}
+use Rattle.eeprom.specs.Range.{wordsAsked, wordsWritten, wordsLaid}
+use Rattle.eeprom.proofs.Words.{bytesLaid, none-laid, word-laid, written-more, written-all, written-stop, asked-end, asked-data}
 use Rattle.eeprom.proofs.write_words.Statement.{statement}
 use Rattle.eeprom.proofs.write_words.Tie as tie
 
+-- what a write done says, where it stands, and where its range ends
+abbrev said : WordsWritten → Said
+said w = saidWriting (w .answer)
+
+abbrev position : WordsWritten → ℕ
+position w = w .range .«byte_pos»
+
+abbrev last : WordsWritten → ℕ
+last w = w .range .end
+
 abbrev Inv-loop : tie.InvT-loop
 Inv-loop image₀ pos end bytes at₀ n₀ image at n =
-    (wrote image n at end (words (drop n bytes)) ≡ wrote image₀ 0 pos end (words bytes)) × (length image ≡ length image₀) × (at ≡ pos + n) × (at ≤ endMost)
+    (image ≡ bytesLaid image₀ pos n bytes) × (n ≤ 2 * wordsWritten (length image₀) pos end (length bytes)) × (n % 2 ≡ 0) × (length image ≡ length image₀) × (at ≡ pos + n) × (at ≤ endMost)
 
 abbrev μ-loop : tie.MeasureT-loop
 μ-loop image₀ pos end bytes at₀ n₀ image at n = end - at
 
 loop-holds : tie.Need-loop-holds Inv-loop μ-loop
-loop-holds c = (refl, search needs, search needs, search needs)
+loop-holds c =
+    let a = c .before .before .args in
+    (none-laid (a .image .now) (a .pos) (a .bytes .now), search needs, refl, search needs, search needs, search needs)
 
 cast-start-word : tie.Need-cast-start-word Inv-loop μ-loop
 cast-start-word c = search needs
@@ -55,30 +70,43 @@ loop-again : tie.Need-loop-again Inv-loop μ-loop
 loop-again c =
     let l = c .before .before .before .before .before .before .before .before .before .loop in
     let a = c .before .before .before .before .before .before .before .before .before .before .before .before .args in
-    (rw (c .before .before .write-word .ensures, c .before .before .before .or-pad .ensures) (sym (wrote-next (l .image) (l .n) (l .at) (a .end) (a .bytes .now) (search needs) (search needs) (search needs))) ∙ l .inv .0, search needs, search needs, search needs)
+    let at : l .at ≡ a .pos + l .n = l .inv .4 in
+    let more = written-more (length (a .image .now)) (a .pos) (a .end) (length (a .bytes .now)) (l .n) (l .inv .2) (search needs) (search needs) (search needs) in
+    (rw (c .before .before .write-word .ensures, c .before .before .before .or-pad .ensures, l .inv .0, at) (word-laid (a .image .now) (a .pos) (a .end) (a .bytes .now) (l .n) (l .inv .2) more), more, search needs, search needs, search needs, search needs)
+
+write-done-requires : tie.Need-write-done-requires Inv-loop μ-loop
+write-done-requires c κs = search needs
 
 same-length : tie.Need-same-length Inv-loop μ-loop
 same-length c = search needs
 
 returns : tie.Need-returns Inv-loop μ-loop
+unfolding wordsLaid
 returns c =
-    let l = c .before .before .before .loop in
-    let a = c .before .before .before .before .before .before .args in
-    let e = sym (l .inv .0) ∙ wrote-stop (l .image) (l .n) (l .at) (a .end) (a .bytes .now) (search needs) (search needs) (search needs) in
-    (sym (ap (λ (w : Wrote). w .said) e), sym (ap (λ (w : Wrote). w .image) e))
+    let d = c .write-done .ensures in
+    let l = c .before .before .before .before .loop in
+    let a = c .before .before .before .before .before .before .before .args in
+    let e = written-stop (length (a .image .now)) (a .pos) (a .end) (length (a .bytes .now)) (l .n) (l .inv .2) (l .inv .1) (search needs) (search needs) (search needs) in
+    (ap said d ∙ sym (e .1), ((ap position d ∙ l .inv .4 ∙ ap (λ (k : ℕ). a .pos + k) (e .0), ap last d), l .inv .0 ∙ ap (λ (k : ℕ). bytesLaid (a .image .now) (a .pos) k (a .bytes .now)) (e .0)))
 
-cast-t24 : tie.Need-cast-t24 Inv-loop μ-loop
-cast-t24 c = search needs
+cast-t25 : tie.Need-cast-t25 Inv-loop μ-loop
+cast-t25 c = search needs
+
+write-done-requires-2 : tie.Need-write-done-requires-2 Inv-loop μ-loop
+write-done-requires-2 c κs = search needs
 
 same-length-2 : tie.Need-same-length-2 Inv-loop μ-loop
 same-length-2 c = search needs
 
 returns-2 : tie.Need-returns-2 Inv-loop μ-loop
+unfolding wordsLaid
 returns-2 c =
-    let l = c .before .loop in
-    let a = c .before .before .before .before .args in
-    let e = sym (l .inv .0) ∙ ⊎-elim (λ p. wrote-all (l .image) (l .n) (l .at) (a .end) (a .bytes .now) (ltb-false _ _ (p .1 .left))) (λ q. wrote-end (l .image) (l .n) (l .at) (a .end) (words (drop (l .n) (a .bytes .now))) (q .left)) (c .loop-test .came) in
-    (sym (ap (λ (w : Wrote). w .said) e), sym (ap (λ (w : Wrote). w .image) e))
+    let d = c .write-done2 .ensures in
+    let l = c .before .before .loop in
+    let a = c .before .before .before .before .before .args in
+    let k = ⊎-elim (λ p. asked-data (a .pos) (a .end) (length (a .bytes .now)) (l .n) (l .inv .2) (ltb-false _ _ (p .1 .left))) (λ q. asked-end (a .pos) (a .end) (length (a .bytes .now)) (l .n) (l .inv .2) (search needs)) (c .before .loop-test .came) in
+    let e = written-all (length (a .image .now)) (a .pos) (a .end) (length (a .bytes .now)) (l .n) (l .inv .1) k in
+    (ap said d ∙ sym (e .1), ((ap position d ∙ l .inv .4 ∙ ap (λ (k : ℕ). a .pos + k) (e .0), ap last d), l .inv .0 ∙ ap (λ (k : ℕ). bytesLaid (a .image .now) (a .pos) k (a .bytes .now)) (e .0)))
 
 pub write-words-spec : {M : Type 1} → statement M
 write-words-spec =
@@ -98,8 +126,10 @@ write-words-spec =
     add-n
     loop-less
     loop-again
+    write-done-requires
     same-length
     returns
-    cast-t24
+    cast-t25
+    write-done-requires-2
     same-length-2
     returns-2)

@@ -1,22 +1,23 @@
 -- `frame_reader::listed` reads the PDUs one by one: after k turns the list holds those of the first k places.
-use mathlib.Core.Path.{_≡_, ap, _∙_}
+use mathlib.Core.Path.{_≡_, refl, sym, ap, _∙_}
 use mathlib.Core.List.{List, map}
-use Prim.Native.Nat.{_-_, _≤_}
+use Prim.Native.Nat.{ℕ, _-_, _≤_}
 use native.Mathlib.Omega.{arith}
 use borrow.Author.Needs.{needs}
-use lib.ListN.{take}
+use lib.ListN.{length, take}
+use lib.Seq.{length-take-le}
 use Rattle.pdu.specs.declared.PduFields.{PduFields}
 use Rattle.pdu.specs.Read.{seenAt}
 use Rattle.frame_reader.specs.declared.FrameRead.{FrameRead}
 use Rattle.frame_reader.specs.declared.FrameAnswer.{FrameAnswer}
-use Rattle.frame_reader.specs.declared.FrameAnswer.the-variants.{Frame}
 use Rattle.frame_reader.specs.Answers.{padded}
+use Rattle.frame_reader.specs.Walk.{listing}
 use Rattle.frame_reader.proofs.Laws.{padded-more}
 use Rattle.frame_reader.proofs.listed.Statement.{statement}
 use Rattle.frame_reader.proofs.listed.Tie as tie
 
 abbrev Inv-loop : tie.InvT-loop
-Inv-loop s places n l₀ k₀ l k = (k ≤ n) × (l .answer ≡ Frame) × (l .pdus ≡ padded (map (seenAt s) (take k places)))
+Inv-loop s places n l₀ k₀ l k = (k ≤ n) × (l .answer ≡ l₀ .answer) × (l .pdus ≡ padded (map (seenAt s) (take k places)))
 
 abbrev μ-loop : tie.MeasureT-loop
 μ-loop s places n l₀ k₀ l k = n - k
@@ -27,7 +28,7 @@ no-pdus-requires c κs = search needs
 loop-holds : tie.Need-loop-holds Inv-loop μ-loop
 loop-holds c =
     let e = c .no-pdus .ensures in
-    (omega arith, ap (λ (x : FrameRead). x .answer) e, ap (λ (x : FrameRead). x .pdus) e)
+    (omega arith, refl, ap (λ (x : FrameRead). x .pdus) e)
 
 mul-pdu-at : tie.Need-mul-pdu-at Inv-loop μ-loop
 mul-pdu-at c = search needs
@@ -59,12 +60,16 @@ loop-again c =
     (omega arith, x .inv .1, rw (x .inv .2) (padded-more _ _ (x .k) _ (omega arith) (omega arith) (c .pdu-at .ensures)))
 
 returns : tie.Need-returns Inv-loop μ-loop
+unfolding listing
 returns c =
     let x = c .before .loop in
-    let n = c .before .before .before .before .before .args .n in
-    let e : x .k ≡ n = omega arith in
-    ap (λ (a : FrameAnswer). record { answer = a; count = n; pdus = x .l .pdus }) (x .inv .1)
-    ∙ ap (λ (l : List PduFields). record { answer = Frame; count = n; pdus = l }) (rw (← e) (x .inv .2))
+    let a = c .before .before .before .before .before .args in
+    let e : x .k ≡ a .n = omega arith in
+    let k : length (take (a .n) (a .places .now)) ≡ a .n = length-take-le (a .n) (a .places .now) (omega arith) in
+    let same : x .l .answer ≡ _ = x .inv .1 ∙ ap (λ (z : FrameRead). z .answer) (c .before .before .no-pdus .ensures) in
+    ap (λ (z : FrameAnswer). record { answer = z; count = a .n; pdus = x .l .pdus }) same
+    ∙ ap (λ (z : List PduFields). record { answer = _; count = a .n; pdus = z }) (rw (← e) (x .inv .2))
+    ∙ ap (λ (z : ℕ). record { answer = _; count = z; pdus = padded (map (seenAt (a .s .now)) (take (a .n) (a .places .now))) }) (sym k)
 
 pub listed-spec : {M : Type 1} → statement M
 listed-spec =

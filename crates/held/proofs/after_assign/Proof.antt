@@ -40,7 +40,8 @@ use denote.Triple.Spec.{Meets, tripleOf}
 use denote.Triple.Table.{entered, cited}
 use denote.Triple.Walked.{says, Stays, stay-none, walkOf, goes-none, Walks, ends-at, walked, walk-meets}
 use denote.Exit.{yes}
-use Rattle.ports.specs.Assigning.{assignedOf}
+use Rattle.ports.specs.Answers.{saidPort}
+use Rattle.ports.specs.Assigning.{assignedSaid, assignedPorts}
 use Rattle.ports.specs.declared.Ports.{Ports}
 use Rattle.ports.specs.declared.Assigned.{Assigned}
 use Rattle.ports.specs.declared.PortAnswer.{PortAnswer as Answer}
@@ -108,11 +109,11 @@ module _ {M : Type 1} (𝓤 : URA M) (H : Heap 𝓤) (A : Atoms 𝓤) (W : Given
       nothing ! $ move ! (2 ∷ 0 ∷ []) $ join ! $ join ! $ frame ! $ done !
 
   abbrev Got : Answer → Ports → Type 0
-  Got d z = (d ≡ assignedOf h n .answer) × (z ≡ assignedOf h n .ports)
+  Got d z = (saidPort d ≡ assignedSaid h n) × (z ≡ assignedPorts h n)
 
   exits : (d : Answer) (w : Val) (z : Ports) → Got d z → Is S.the-row d (w ∷ []) → Is T.the-row z (mach z ∷ []) → ent 𝓤 (emp 𝓤) (Post (machR d z))
   exits d w z e is iz =
-      qed W [] ∵ suffices ! _ (ends-at 𝓤 H A self.ended stayed (self.clauses 𝓤 H A at-mem run) W ((tt, tt, tt, x, at), tt) (machR d z) (made d z) (tt, (tt, tt)) (tt, (tt, tt))) $ says ! (λ i. made (e .0 i) (e .1 i)) $
+      qed W [] ∵ suffices ! _ (ends-at 𝓤 H A self.ended stayed (self.clauses 𝓤 H A at-mem run) W ((tt, tt, tt, x, at), tt) (machR d z) (made d z) (tt, (tt, tt)) (tt, (tt, tt))) $ says ! e $
       owned ! R.the-row (Is R.the-row) (LL.makes R.the-type R′.the-plain 𝓤 H A) (made d z) _ (made-is d w z is iz) $
       nothing ! $ owned ! u16 (Is u16) (uint-makes 𝓤 H A W w16) n _ (refl, fits) $ fjoin ! $ owned ! T.the-row (Is T.the-row) (LL.makes T.the-type T′.the-plain 𝓤 H A) h _ was $ fjoin ! $ nothing ! $ done !
 

@@ -39,7 +39,8 @@ use denote.Triple.Spec.{Meets, tripleOf}
 use denote.Triple.Table.{entered, cited}
 use denote.Triple.Walked.{says, Stays, stay-ref, stay-none, walkOf, AllGo, goes-none, goes-ref, Walks, ends-at, walked, walk-meets}
 use denote.Exit.{yes}
-use Rattle.ports.specs.Assigning.{assignedOf}
+use Rattle.ports.specs.Answers.{saidPort}
+use Rattle.ports.specs.Assigning.{assignedSaid, assignedPorts}
 use Rattle.ports.specs.declared.Ports.{Ports}
 use Rattle.ports.specs.declared.Assigned.{Assigned}
 use Rattle.ports.proofs.Ports as T
@@ -74,8 +75,9 @@ module _ {M : Type 1} (𝓤 : URA M) (H : Heap 𝓤) (A : Atoms 𝓤) (W : Given
   abbrev at : List Val × (List Val × Unit {0})
   at = (vptr b o ∷ [], (vint w16 n ∷ [], tt))
 
-  abbrev found : Assigned
-  found = assignedOf h n
+  -- what the callee promises of its result
+  abbrev Met : Assigned → Type 0
+  Met r = (saidPort (r .answer) ≡ assignedSaid h n) × (r .ports ≡ assignedPorts h n)
 
   abbrev Post : Val → SProp 𝓤
   Post = walkOf 𝓤 H A self.ended stayed (self.clauses 𝓤 H A at-mem run) .post (((κ, tt), (q, tt), tt, x, at), tt)
@@ -90,8 +92,8 @@ module _ {M : Type 1} (𝓤 : URA M) (H : Heap 𝓤) (A : Atoms 𝓤) (W : Given
       owned ! T.the-row (Is T.the-row) (LL.makes T.the-type T′.the-plain 𝓤 H A) h _ is $ fjoin ! $ move ! (1 ∷ 0 ∷ []) $ join ! $ frame ! $ done !
 
   -- of the callee's `ensured`, the clause alone
-  said : (r : Assigned) → ent 𝓤 (ensured 𝓤 H A callee.ended (callee.clauses 𝓤 H A at-mem run) tt (h, (n, tt)) tt r) (fact 𝓤 (r ≡ found))
-  said r = exE 𝓤 _ (λ ws. snd∗ 𝓤 (sem 𝓤 H A (lasts callee.ended tt (h, (n, tt)) ws)) (fact 𝓤 (r ≡ found)))
+  said : (r : Assigned) → ent 𝓤 (ensured 𝓤 H A callee.ended (callee.clauses 𝓤 H A at-mem run) tt (h, (n, tt)) tt r) (fact 𝓤 (Met r))
+  said r = exE 𝓤 _ (λ ws. snd∗ 𝓤 (sem 𝓤 H A (lasts callee.ended tt (h, (n, tt)) ws)) (fact 𝓤 (Met r)))
 
   -- what is known of each field of what the callee returned
   answer-is : (r : Assigned) (u : Val) → Is R.the-row r (u ∷ []) → Is S.the-row (r .answer) (EL.vals S.the-type S′.the-laws (r .answer))
@@ -100,11 +102,11 @@ module _ {M : Type 1} (𝓤 : URA M) (H : Heap 𝓤) (A : Atoms 𝓤) (W : Given
   ports-is : (r : Assigned) (u : Val) → Is R.the-row r (u ∷ []) → Is T.the-row (r .ports) (mach (r .ports) ∷ [])
   ports-is r u is = LL.owed R.the-type R′.the-laws r (u ∷ []) is .1 .0
 
-  exits : (r : Assigned) → r ≡ found → Is S.the-row (r .answer) (EL.vals S.the-type S′.the-laws (r .answer)) → ent 𝓤 (sep 𝓤 (A .obs γ (T.the-row .coded .code (r .ports))) (sep 𝓤 (A .bor κ (Body (mem T.the-row) b o γ)) (A .lft κ q))) (Post (EL.val S.the-type S′.the-laws (r .answer)))
+  exits : (r : Assigned) → Met r → Is S.the-row (r .answer) (EL.vals S.the-type S′.the-laws (r .answer)) → ent 𝓤 (sep 𝓤 (A .obs γ (T.the-row .coded .code (r .ports))) (sep 𝓤 (A .bor κ (Body (mem T.the-row) b o γ)) (A .lft κ q))) (Post (EL.val S.the-type S′.the-laws (r .answer)))
   exits r e is =
       qed W (‵ (fobs γ (T.the-row .coded .code (r .ports))) ∷ ‵ (fbor κ (Body (mem T.the-row) b o γ)) ∷ ‵ (flft κ q) ∷ []) ∵
       suffices ! _ (ends-at 𝓤 H A self.ended stayed (self.clauses 𝓤 H A at-mem run) W (((κ, tt), (q, tt), tt, x, at), tt) (EL.val S.the-type S′.the-laws (r .answer)) (r .answer) (r .ports, (tt, tt)) (tt, (tt, tt))) $
-      says ! (ap (λ (z : Assigned). z .answer) e, ap (λ (z : Assigned). z .ports) e) $ nothing ! $ move ! (3 ∷ 0 ∷ []) $ join ! $
+      says ! e $ nothing ! $ move ! (3 ∷ 0 ∷ []) $ join ! $
       frame ! $ feqI ! (List Val) (vptr b o ∷ []) (vptr b o ∷ []) refl $ fjoin3 ! $ nothing ! $ owned ! u16 (Is u16) (uint-makes 𝓤 H A W w16) n _ (refl, fits) $ fjoin ! $ move ! (1 ∷ 0 ∷ []) $ fjoin ! $
       owned ! S.the-row (Is S.the-row) (EL.makes S.the-type S′.the-plain 𝓤 H A) (r .answer) _ is $ move ! (1 ∷ 0 ∷ []) $ done !
 
@@ -121,7 +123,7 @@ module _ {M : Type 1} (𝓤 : URA M) (H : Heap 𝓤) (A : Atoms 𝓤) (W : Given
         nothing ! $ use1 W (raw (Callee 𝓤 H A at-mem run .pre to)) (asked was) $
         calls-at ! fm (Callee 𝓤 H A at-mem run) known to (and-then ! (load ! (from ! (stop !)) (look ! 7 refl)) (and-then ! (load ! (from ! (stop !)) (look ! 11 refl)) (no-more !))) (λ u.
         use1 W (later (some (λ (r : Assigned). (‵ ftrue ⊛ ‵ (R.the-row .own r (u ∷ []))) ⊛ raw (ensured 𝓤 H A callee.ended (callee.clauses 𝓤 H A at-mem run) tt (h, (n, tt)) tt r)))) (id⊢ 𝓤 _) $ await ! tt $ pick ! (λ r.
-        split ! $ move ! (1 ∷ []) $ use1 W (raw (fact 𝓤 (r ≡ found))) (said r) $ heard ! (r ≡ found) (λ e. split ! $ drop ! $
+        split ! $ move ! (1 ∷ []) $ use1 W (raw (fact 𝓤 (Met r))) (said r) $ heard ! (Met r) (λ e. split ! $ drop ! $
         -- [what the result owns; the struct's cell; the open borrow; obs; auth; true; the number's; _4; …; _3; …; _2; …; _1; …; _0; …]
         peeks ! R.the-row (Is R.the-row) (shows 𝓤 H A R.the-row) r (u ∷ []) (λ is.
         land ! (from ! (stop !)) (init ! 9 refl (LL.lawful R.the-type R′.the-laws 𝓤 H A W .typed r _ is .0)) $

@@ -49,7 +49,7 @@ use denote.Exit.{yes}
 use Rattle.refusal.specs.Said.{Said}
 use Rattle.eeprom.specs.Range.{writeSaid, writeImage}
 use Rattle.eeprom.proofs.Words.{length-write}
-use Rattle.held.specs.Range.{alone, written}
+use Rattle.held.specs.Range.{written}
 use Rattle.held.specs.Answers.{saidCounted}
 use Rattle.held.specs.declared.EepromRangeMut.{EepromRangeMut}
 use Rattle.held.specs.declared.Counted.{Counted}
@@ -167,7 +167,7 @@ module _ {M : Type 1} (𝓤 : URA M) (H : Heap 𝓤) (A : Atoms 𝓤) (W : Given
       nothing ! $ move ! (2 ∷ 0 ∷ []) $ fjoin ! $ move ! (3 ∷ 0 ∷ []) $ fjoin ! $ move ! (2 ∷ 0 ∷ []) $ use2 W (raw (Callee 𝓤 H A at-mem run .pre (to ν l δ))) (asked ν l δ) $ frame ! $ done !
 
   abbrev Got : Counted → EepromRangeMut → Type 0
-  Got d y = (saidCounted d ≡ alone core) × (y ≡ written r (z .now))
+  Got d y = (saidCounted d ≡ core) × (y ≡ written r (z .now))
 
   -- what is known of the position of the range that comes back
   pos-fits : (y : EepromRangeMut) → Is B y (T′.lowered y ∷ []) → y .«byte_pos» < 2 ^ 16

@@ -1,4 +1,5 @@
 -- `fmmus_in` fills place after place: the records so far and what the rest lists are the whole list.
+use Rattle.sii.specs.Layout.{placeMost}
 use borrow.Author.Needs.{needs}
 use Prim.Native.Nat.{_≤_, _-_}
 use mathlib.Core.Path.{ap, sym, _∙_}
@@ -11,7 +12,7 @@ use Rattle.lists.proofs.fmmus_in.Statement.{statement}
 use Rattle.lists.proofs.fmmus_in.Tie as tie
 
 abbrev Inv-loop : tie.InvT-loop
-Inv-loop image chunk kind start end items₀ count₀ at₀ items count at = (at ≤ 1000000) × Going (fmmuAt kind image end) 0 fmmuMost start items count at
+Inv-loop image chunk kind start end items₀ count₀ at₀ items count at = (at ≤ placeMost) × Going (fmmuAt kind image end) 0 fmmuMost start items count at
 
 abbrev μ-loop : tie.MeasureT-loop
 μ-loop image chunk kind start end items₀ count₀ at₀ items count at = fmmuMost - count

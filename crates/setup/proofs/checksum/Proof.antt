@@ -1,5 +1,5 @@
 -- `checksum` reads the stored byte and computes the other.
-use Rattle.sii.specs.Fixed.{lent}
+use Rattle.sii.proofs.Lent.{lent-yes, lent-no}
 use Rattle.setup.specs.Setup.{checksumSaid}
 use borrow.Author.Needs.{needs}
 use Rattle.setup.proofs.checksum.Statement.{statement}
@@ -18,12 +18,12 @@ sum-requires : tie.Need-sum-requires
 sum-requires c κs = search needs
 
 returns : tie.Need-returns
-unfolding lent checksumSaid
-returns c = simp (← c .before .before .before .image-within .ensures, c .before .before .if1 .taken, c .before .byte-of .ensures, c .sum .ensures)
+unfolding checksumSaid
+returns c = rw (c .before .byte-of .ensures, c .sum .ensures) (lent-yes _ _ (c .before .before .before .image-within .ensures) _ (c .before .before .if1 .taken))
 
 returns-2 : tie.Need-returns-2
-unfolding lent checksumSaid
-returns-2 c = simp (← c .before .image-within .ensures, c .if1 .left)
+unfolding checksumSaid
+returns-2 c = lent-no _ _ (c .before .image-within .ensures) _ (c .if1 .left)
 
 pub checksum-spec : {M : Type 1} → statement M
 checksum-spec =

@@ -1,5 +1,5 @@
 -- `pdi_control` is the record of the table, for an image within the bound.
-use Rattle.sii.specs.Fixed.{lent}
+use Rattle.sii.proofs.Lent.{lent-yes, lent-no}
 use Rattle.setup.specs.Setup.{pdiSaid}
 use borrow.Author.Needs.{needs}
 use Rattle.setup.proofs.pdi_control.Statement.{statement}
@@ -12,12 +12,12 @@ pdi-in-requires : tie.Need-pdi-in-requires
 pdi-in-requires c κs = search needs
 
 returns : tie.Need-returns
-unfolding lent pdiSaid
-returns c = simp (← c .before .before .image-within .ensures, c .before .if1 .taken, c .pdi-in .ensures)
+unfolding pdiSaid
+returns c = rw (c .pdi-in .ensures) (lent-yes _ _ (c .before .before .image-within .ensures) _ (c .before .if1 .taken))
 
 returns-2 : tie.Need-returns-2
-unfolding lent pdiSaid
-returns-2 c = simp (← c .before .image-within .ensures, c .if1 .left)
+unfolding pdiSaid
+returns-2 c = lent-no _ _ (c .before .image-within .ensures) _ (c .if1 .left)
 
 pub pdi-control-spec : {M : Type 1} → statement M
 pdi-control-spec = tie.close (tie.spec image-within-requires pdi-in-requires returns returns-2)

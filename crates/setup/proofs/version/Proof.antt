@@ -1,5 +1,5 @@
 -- `version` reads the word of the table.
-use Rattle.sii.specs.Fixed.{lent}
+use Rattle.sii.proofs.Lent.{lent-yes, lent-no}
 use Rattle.setup.specs.Setup.{versionSaid}
 use borrow.Author.Needs.{needs}
 use Rattle.setup.proofs.version.Statement.{statement}
@@ -12,12 +12,12 @@ word-of-requires : tie.Need-word-of-requires
 word-of-requires c κs = search needs
 
 returns : tie.Need-returns
-unfolding lent versionSaid
-returns c = simp (← c .before .before .image-within .ensures, c .before .if1 .taken, c .word-of .ensures)
+unfolding versionSaid
+returns c = rw (c .word-of .ensures) (lent-yes _ _ (c .before .before .image-within .ensures) _ (c .before .if1 .taken))
 
 returns-2 : tie.Need-returns-2
-unfolding lent versionSaid
-returns-2 c = simp (← c .before .image-within .ensures, c .if1 .left)
+unfolding versionSaid
+returns-2 c = lent-no _ _ (c .before .image-within .ensures) _ (c .if1 .left)
 
 pub version-spec : {M : Type 1} → statement M
 version-spec = tie.close (tie.spec image-within-requires word-of-requires returns returns-2)

@@ -7,20 +7,11 @@ use Rattle.sii.proofs.identity_in.Tie as tie
 long-of-requires : tie.Need-long-of-requires
 long-of-requires c κs = search needs
 
-add-long-of : tie.Need-add-long-of
-add-long-of c = search needs
-
 long-of-requires-2 : tie.Need-long-of-requires-2
 long-of-requires-2 c κs = search needs
 
-add-long-of-2 : tie.Need-add-long-of-2
-add-long-of-2 c = search needs
-
 long-of-requires-3 : tie.Need-long-of-requires-3
 long-of-requires-3 c κs = search needs
-
-add-long-of-3 : tie.Need-add-long-of-3
-add-long-of-3 c = search needs
 
 long-of-requires-4 : tie.Need-long-of-requires-4
 long-of-requires-4 c κs = search needs
@@ -34,10 +25,7 @@ identity-in-spec =
     tie.close
     (tie.spec
     long-of-requires
-    add-long-of
     long-of-requires-2
-    add-long-of-2
     long-of-requires-3
-    add-long-of-3
     long-of-requires-4
     returns)

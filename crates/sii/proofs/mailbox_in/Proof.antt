@@ -7,26 +7,14 @@ use Rattle.sii.proofs.mailbox_in.Tie as tie
 word-of-requires : tie.Need-word-of-requires
 word-of-requires c κs = search needs
 
-add-word-of : tie.Need-add-word-of
-add-word-of c = search needs
-
 word-of-requires-2 : tie.Need-word-of-requires-2
 word-of-requires-2 c κs = search needs
-
-add-word-of-2 : tie.Need-add-word-of-2
-add-word-of-2 c = search needs
 
 word-of-requires-3 : tie.Need-word-of-requires-3
 word-of-requires-3 c κs = search needs
 
-add-word-of-3 : tie.Need-add-word-of-3
-add-word-of-3 c = search needs
-
 word-of-requires-4 : tie.Need-word-of-requires-4
 word-of-requires-4 c κs = search needs
-
-add-byte-of : tie.Need-add-byte-of
-add-byte-of c = search needs
 
 byte-of-requires : tie.Need-byte-of-requires
 byte-of-requires c κs = search needs
@@ -40,12 +28,8 @@ mailbox-in-spec =
     tie.close
     (tie.spec
     word-of-requires
-    add-word-of
     word-of-requires-2
-    add-word-of-2
     word-of-requires-3
-    add-word-of-3
     word-of-requires-4
-    add-byte-of
     byte-of-requires
     returns)

@@ -4,6 +4,7 @@ use Prim.Native.Nat.{_≤_}
 use native.Mathlib.Omega.{arith}
 use lib.ListN.{length}
 use Rattle.wire.proofs.Laws.{laid-whole}
+use Rattle.sii.specs.Layout.{start, past, configuredStationAlias}
 use Rattle.sii.specs.Fixed.{withAlias}
 use borrow.Author.Needs.{needs}
 use Rattle.sii.proofs.put_alias.Statement.{statement}
@@ -31,8 +32,8 @@ returns : tie.Need-returns
 unfolding withAlias
 returns c =
     let image = c .before .before .before .before .before .before .args .image .now in
-    let h : 10 ≤ length image = omega arith in
-    c .before .before .lay .ensures ∙ laid-whole image 8 _ h
+    let h : past configuredStationAlias ≤ length image = omega arith in
+    c .before .before .lay .ensures ∙ laid-whole image (start configuredStationAlias) _ h
 
 pub put-alias-spec : {M : Type 1} → statement M
 put-alias-spec =

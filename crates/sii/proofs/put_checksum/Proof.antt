@@ -4,7 +4,8 @@ use Prim.Native.Nat.{_≤_}
 use native.Mathlib.Omega.{arith}
 use lib.ListN.{length}
 use Rattle.wire.proofs.Laws.{laid-whole}
-use Rattle.sii.specs.Fixed.{withChecksum}
+use Rattle.sii.specs.Layout.{start, checksum}
+use Rattle.sii.specs.Fixed.{checksumEnd, withChecksum}
 use borrow.Author.Needs.{needs}
 use Rattle.sii.proofs.put_checksum.Statement.{statement}
 use Rattle.sii.proofs.put_checksum.Tie as tie
@@ -34,8 +35,8 @@ returns : tie.Need-returns
 unfolding withChecksum
 returns c =
     let image = c .before .before .before .before .before .before .before .before .before .args .image .now in
-    let h : 16 ≤ length image = omega arith in
-    c .before .before .lay .ensures ∙ rw (c .before .before .before .before .before .crc .ensures) (laid-whole image 14 _ h)
+    let h : checksumEnd ≤ length image = omega arith in
+    c .before .before .lay .ensures ∙ rw (c .before .before .before .before .before .crc .ensures) (laid-whole image (start checksum) _ h)
 
 pub put-checksum-spec : {M : Type 1} → statement M
 put-checksum-spec =

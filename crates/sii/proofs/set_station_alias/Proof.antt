@@ -9,9 +9,6 @@ use Rattle.sii.proofs.set_station_alias.Tie as tie
 image-within-requires : tie.Need-image-within-requires
 image-within-requires c κs = search needs
 
-add-if2 : tie.Need-add-if2
-add-if2 c = search needs
-
 put-alias-requires : tie.Need-put-alias-requires
 put-alias-requires c κs = search needs
 
@@ -48,7 +45,6 @@ set-station-alias-spec =
     tie.close
     (tie.spec
     image-within-requires
-    add-if2
     put-alias-requires
     put-checksum-requires
     same-length

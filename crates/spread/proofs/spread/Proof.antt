@@ -8,7 +8,8 @@ use native.Mathlib.Omega.{arith}
 use lib.ListN.{length}
 use Rattle.refusal.specs.declared.Refusal.the-variants.{Address, NoRoom, BadArgument}
 use Rattle.spread.specs.Row.{lawful, roomIn, addressEnd}
-use Rattle.spread.proofs.Laws.{Lawful, law, reaches, refused-14, refused-1, refused-13, is-done, met-done, met-no}
+use Rattle.spread.specs.Demand.{Bounds}
+use Rattle.spread.proofs.Laws.{law, reaches, refused-14, refused-1, refused-13, is-done, met-done, met-no}
 use Rattle.spread.proofs.spread.Statement.{statement}
 use Rattle.spread.proofs.spread.Tie as tie
 
@@ -20,7 +21,7 @@ passed c = sym (c .before .is-lawful .ensures) ∙ c .if1 .taken
 
 facts : (c : tie.Then1) →
     let a = c .before .before .before .before .args in
-    Lawful (length (a .areas .now)) (a .size) (a .first) (a .command) (length (a .image .now))
+    Bounds (length (a .areas .now)) (a .size) (a .first) (a .command) (length (a .image .now))
 facts c =
     let a = c .before .before .before .before .args in
     law (length (a .areas .now)) (a .size) (a .first) (a .command) (length (a .image .now)) (passed c)
@@ -98,7 +99,7 @@ returns-2 c =
     let r = h .before in
     let t = r .before in
     let a = t .before .before .before .before .before .args in
-    met-no (a .areas .now) (a .size) (a .first) (a .index) (a .command) (a .address) (a .image .now) (c .refused .result) NoRoom
+    met-no (a .areas .now) (a .size) (a .first) (a .index) (a .command) (a .address) (a .image .now) (c .refused .result) NoRoom _ _
     (refused-13 (a .areas .now) (a .size) (a .first) (a .index) (a .command) (a .address) (a .image .now) (passed (t .before)) (reached t)
     (lt-leb _ _ (let z : roomIn (length (a .areas .now) / a .size) (a .size) (a .first .used) < length (a .image .now) = omega (arith, h .if3 .left, r .room-for .ensures) in z)))
     (c .refused .ensures)
@@ -107,7 +108,7 @@ returns-3 : tie.Need-returns-3
 returns-3 c =
     let t = c .before in
     let a = t .before .before .before .before .before .args in
-    met-no (a .areas .now) (a .size) (a .first) (a .index) (a .command) (a .address) (a .image .now) (c .refused2 .result) Address
+    met-no (a .areas .now) (a .size) (a .first) (a .index) (a .command) (a .address) (a .image .now) (c .refused2 .result) Address _ _
     (refused-1 (a .areas .now) (a .size) (a .first) (a .index) (a .command) (a .address) (a .image .now) (passed (t .before))
     (lt-leb _ _ (let z : addressEnd < a .address + length (a .image .now) = omega (arith, t .if2 .left) in z)))
     (c .refused2 .ensures)
@@ -116,7 +117,7 @@ returns-4 : tie.Need-returns-4
 returns-4 c =
     let t = c .before in
     let a = t .before .before .before .before .args in
-    met-no (a .areas .now) (a .size) (a .first) (a .index) (a .command) (a .address) (a .image .now) (c .refused3 .result) BadArgument
+    met-no (a .areas .now) (a .size) (a .first) (a .index) (a .command) (a .address) (a .image .now) (c .refused3 .result) BadArgument _ _
     (refused-14 (a .areas .now) (a .size) (a .first) (a .index) (a .command) (a .address) (a .image .now) (failed t))
     (c .refused3 .ensures)
 

@@ -1,25 +1,21 @@
--- `fit` makes the definition's tests in its order.
-use borrow.Author.Tests.{le-ltb, le-leb, lt-leb}
+-- `fit` compares with the room, then makes the exact read's own test.
 use borrow.Author.Needs.{needs}
-use Rattle.refusal.proofs.Tests.{tests}
-use Rattle.strings.specs.Strings.{fitted}
+use native.Mathlib.Omega.{arith}
+use Rattle.strings.proofs.Laws.{fitted-long, fitted-at, fitted-cut}
 use Rattle.strings.proofs.fit.Statement.{statement}
 use Rattle.strings.proofs.fit.Tie as tie
 
 returns : tie.Need-returns
-unfolding fitted
-returns c = search tests
+returns c image f = fitted-long image _ _ _ _ (c .if1 .taken)
 
 remaining-requires : tie.Need-remaining-requires
 remaining-requires c κs = search needs
 
 returns-2 : tie.Need-returns-2
-unfolding fitted
-returns-2 c = simp (le-ltb _ _ (c .before .before .if1 .left), ← c .before .remaining .ensures, le-leb _ _ (c .if2 .taken))
+returns-2 c image f = fitted-at image _ _ _ _ f (c .before .before .if1 .left) (omega (arith, c .if2 .taken, c .before .remaining .ensures))
 
 returns-3 : tie.Need-returns-3
-unfolding fitted
-returns-3 c = simp (le-ltb _ _ (c .before .before .if1 .left), ← c .before .remaining .ensures, lt-leb _ _ (c .if2 .left))
+returns-3 c image f = fitted-cut image _ _ _ _ f (c .before .before .if1 .left) (omega (arith, c .if2 .left, c .before .remaining .ensures))
 
 pub fit-spec : {M : Type 1} → statement M
 fit-spec = tie.close (tie.spec returns remaining-requires returns-2 returns-3)

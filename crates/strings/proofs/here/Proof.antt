@@ -4,6 +4,7 @@ use borrow.Author.Needs.{needs}
 use Rattle.eeprom.specs.Answers.{saidByte}
 use Rattle.refusal.proofs.On.{on3-gives, on3-refuses}
 use Rattle.strings.specs.Strings.{stringHere}
+use Rattle.strings.proofs.Laws.{byte-fine}
 use Rattle.strings.proofs.here.Statement.{statement}
 use Rattle.strings.proofs.here.Tie as tie
 
@@ -24,7 +25,9 @@ enum-known-x c = search needs
 
 returns : tie.Need-returns
 unfolding stringHere
-returns c = c .fit .ensures ∙ on3-gives _ _ _ _ _ (ap saidByte (sym (c .before .before .n .given .1)) ∙ c .before .before .before .before .read-byte .ensures)
+returns c =
+    let b = ap saidByte (sym (c .before .before .n .given .1)) ∙ c .before .before .before .before .read-byte .ensures in
+    c .fit .ensures _ (byte-fine _ _ _ _ _ _ b) ∙ on3-gives _ _ _ _ _ b
 
 returns-2 : tie.Need-returns-2
 unfolding stringHere

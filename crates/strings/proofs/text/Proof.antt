@@ -16,7 +16,9 @@ cast-lay-text-2 : tie.Need-cast-lay-text-2
 cast-lay-text-2 c = search needs
 
 lay-text-requires : tie.Need-lay-text-requires
-lay-text-requires c κs = (search needs, rw (c .before .before .place .given .1) at (c .before .before .before .before .before .before .pre .1))
+lay-text-requires c κs =
+    let q = c .before .before .before .before .before .before .pre in
+    (search needs, rw (c .before .before .place .given .1) at (q .1), q .0)
 
 cast-t14 : tie.Need-cast-t14
 cast-t14 c = search needs

@@ -1,6 +1,6 @@
-//! Stands for ethercrab's eeprom/device_provider.rs, which talks to a device. Here it is document 01's lent image.
+//! Stands for ethercrab's eeprom/device_provider.rs, which talks to a device. Here it is the lent image of RULES, range.
 //!
-//! Document 01 made into a provider, not behaviour of the Rust: bytes past the image read 0xFF; a word that isn't wholly in the image can't be written (7).
+//! Our rules made into a provider, not behaviour of the Rust: bytes past the image read 0xFF; a word that isn't wholly in the image can't be written (7).
 //! Of the Rust it has the width of a chunk, 4 or 8 bytes from a word address on, and the first category's address, which ETG2010 gives.
 //!
 //! Below stands the oracle's door to `EepromRange`, whose fields only a child module of `eeprom` sees.

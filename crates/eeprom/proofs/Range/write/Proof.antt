@@ -1,7 +1,7 @@
 -- `Range::write` tests its arguments and calls `write_words`.
 use mathlib.Core.Path.{_≡_, sym, _∙_}
 use Prim.Native.Nat.{_%_}
-use Rattle.eeprom.specs.Range.{writeSaid, writeImage}
+use Rattle.eeprom.specs.Range.{writeSaid, writePos, writeImage}
 use Rattle.eeprom.proofs.Laws.{fine-even}
 use borrow.Author.Needs.{needs}
 use Rattle.eeprom.proofs.Range.write.Statement.{statement}
@@ -20,18 +20,18 @@ same-length : tie.Need-same-length
 same-length c = search needs
 
 returns : tie.Need-returns
-unfolding writeSaid writeImage
+unfolding writeSaid writePos writeImage
 returns c =
     let t = c .before .before .before .before in
     let w = c .before .before .write-words .ensures in
-    (simp (← t .before .sound .ensures, t .if1 .taken) (w .0), simp (← t .before .sound .ensures, t .if1 .taken) (w .1))
+    (simp (← t .before .sound .ensures, t .if1 .taken) (w .0), (simp (← t .before .sound .ensures, t .if1 .taken) (λ i. record { «byte_pos» = w .1 .0 .0 i; end = w .1 .0 .1 i }), simp (← t .before .sound .ensures, t .if1 .taken) (w .1 .1)))
 
 same-length-2 : tie.Need-same-length-2
 same-length-2 c = search needs
 
 returns-2 : tie.Need-returns-2
-unfolding writeSaid writeImage
-returns-2 c = (simp (← c .before .sound .ensures, c .if1 .left), simp (← c .before .sound .ensures, c .if1 .left))
+unfolding writeSaid writePos writeImage
+returns-2 c = (simp (← c .before .sound .ensures, c .if1 .left), (simp (← c .before .sound .ensures, c .if1 .left), simp (← c .before .sound .ensures, c .if1 .left)))
 
 pub write-spec : {M : Type 1} → statement M
 write-spec =

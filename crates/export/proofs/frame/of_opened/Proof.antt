@@ -1,5 +1,6 @@
 -- `of_opened` tells what opening answers.
-use mathlib.Core.Path.{ap, sym}
+use mathlib.Core.Path.{ap, sym, _∙_}
+use Rattle.refusal.specs.Said.{gives}
 use Rattle.created_frame.specs.Answers.{saidOpened}
 use Rattle.export.proofs.Laws.{told}
 use borrow.Author.Needs.{needs}
@@ -8,6 +9,9 @@ use Rattle.export.proofs.frame.of_opened.Tie as tie
 
 enum-known-r : tie.Need-enum-known-r
 enum-known-r c = search needs
+
+state-row-requires : tie.Need-state-row-requires
+state-row-requires c κs = search needs
 
 slice-aggregate-given : tie.Need-slice-aggregate-given
 slice-aggregate-given c = search needs
@@ -25,7 +29,7 @@ same-length : tie.Need-same-length
 same-length c = search needs
 
 returns : tie.Need-returns
-returns c = told _ _ _ _ _ (ap saidOpened (sym (c .before .before .before .before .before .before .r .given .1))) (c .before .before .given .ensures)
+returns c = told _ _ _ _ _ (ap gives (c .before .before .before .before .before .state-row .ensures) ∙ ap saidOpened (sym (c .before .before .before .before .before .before .before .r .given .1))) (c .before .before .given .ensures)
 
 same-length-2 : tie.Need-same-length-2
 same-length-2 c = search needs
@@ -38,6 +42,7 @@ of-opened-spec =
     tie.close
     (tie.spec
     enum-known-r
+    state-row-requires
     slice-aggregate-given
     given-requires
     enum-known-r-2

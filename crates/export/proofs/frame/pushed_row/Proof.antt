@@ -1,46 +1,49 @@
--- `pushed_row`: each number of the row is a field.
+-- `pushed_row`: the state's numbers, the next index, and the PDU's numbers behind them.
 use borrow.Author.Needs.{needs}
 use Rattle.export.proofs.frame.pushed_row.Statement.{statement}
 use Rattle.export.proofs.frame.pushed_row.Tie as tie
 
-wide-requires : tie.Need-wide-requires
-wide-requires c κs = search needs
+state-row-requires : tie.Need-state-row-requires
+state-row-requires c κs = search needs
 
-wide-requires-2 : tie.Need-wide-requires-2
-wide-requires-2 c κs = search needs
+handle-row-requires : tie.Need-handle-row-requires
+handle-row-requires c κs = search needs
 
-wide-requires-3 : tie.Need-wide-requires-3
-wide-requires-3 c κs = search needs
+array-read-t10 : tie.Need-array-read-t10
+array-read-t10 c = search needs
 
-wide8-requires : tie.Need-wide8-requires
-wide8-requires c κs = search needs
+array-read-t13 : tie.Need-array-read-t13
+array-read-t13 c = search needs
 
-wide-requires-4 : tie.Need-wide-requires-4
-wide-requires-4 c κs = search needs
+array-read-t16 : tie.Need-array-read-t16
+array-read-t16 c = search needs
 
-wide-requires-5 : tie.Need-wide-requires-5
-wide-requires-5 c κs = search needs
+array-read-t20 : tie.Need-array-read-t20
+array-read-t20 c = search needs
 
-wide8-requires-2 : tie.Need-wide8-requires-2
-wide8-requires-2 c κs = search needs
+array-read-t23 : tie.Need-array-read-t23
+array-read-t23 c = search needs
 
-wide8-requires-3 : tie.Need-wide8-requires-3
-wide8-requires-3 c κs = search needs
+array-read-t26 : tie.Need-array-read-t26
+array-read-t26 c = search needs
+
+array-read-t29 : tie.Need-array-read-t29
+array-read-t29 c = search needs
 
 returns : tie.Need-returns
-returns c =
-    rw (c .before .before .before .before .before .before .before .wide .ensures, c .before .before .before .before .before .before .wide2 .ensures, c .before .before .before .before .before .wide3 .ensures, c .before .before .before .before .wide8 .ensures, c .before .before .before .wide4 .ensures, c .before .before .wide5 .ensures, c .before .wide82 .ensures, c .wide83 .ensures)
+returns c = rw (c .before .state-row .ensures, c .handle-row .ensures)
 
 pub pushed-row-spec : {M : Type 1} → statement M
 pushed-row-spec =
     tie.close
     (tie.spec
-    wide-requires
-    wide-requires-2
-    wide-requires-3
-    wide8-requires
-    wide-requires-4
-    wide-requires-5
-    wide8-requires-2
-    wide8-requires-3
+    state-row-requires
+    handle-row-requires
+    array-read-t10
+    array-read-t13
+    array-read-t16
+    array-read-t20
+    array-read-t23
+    array-read-t26
+    array-read-t29
     returns)

@@ -1,50 +1,49 @@
--- `taken_row`: each number of the row is a field.
+-- `taken_row`: the state's numbers, the next index, how many were taken, and the PDU's numbers behind them.
 use borrow.Author.Needs.{needs}
 use Rattle.export.proofs.frame.taken_row.Statement.{statement}
 use Rattle.export.proofs.frame.taken_row.Tie as tie
 
-wide-requires : tie.Need-wide-requires
-wide-requires c κs = search needs
+state-row-requires : tie.Need-state-row-requires
+state-row-requires c κs = search needs
 
-wide-requires-2 : tie.Need-wide-requires-2
-wide-requires-2 c κs = search needs
+handle-row-requires : tie.Need-handle-row-requires
+handle-row-requires c κs = search needs
 
-wide-requires-3 : tie.Need-wide-requires-3
-wide-requires-3 c κs = search needs
+array-read-t11 : tie.Need-array-read-t11
+array-read-t11 c = search needs
 
-wide8-requires : tie.Need-wide8-requires
-wide8-requires c κs = search needs
+array-read-t14 : tie.Need-array-read-t14
+array-read-t14 c = search needs
 
-wide-requires-4 : tie.Need-wide-requires-4
-wide-requires-4 c κs = search needs
+array-read-t17 : tie.Need-array-read-t17
+array-read-t17 c = search needs
 
-wide-requires-5 : tie.Need-wide-requires-5
-wide-requires-5 c κs = search needs
+array-read-t22 : tie.Need-array-read-t22
+array-read-t22 c = search needs
 
-wide-requires-6 : tie.Need-wide-requires-6
-wide-requires-6 c κs = search needs
+array-read-t25 : tie.Need-array-read-t25
+array-read-t25 c = search needs
 
-wide8-requires-2 : tie.Need-wide8-requires-2
-wide8-requires-2 c κs = search needs
+array-read-t28 : tie.Need-array-read-t28
+array-read-t28 c = search needs
 
-wide8-requires-3 : tie.Need-wide8-requires-3
-wide8-requires-3 c κs = search needs
+array-read-t31 : tie.Need-array-read-t31
+array-read-t31 c = search needs
 
 returns : tie.Need-returns
-returns c =
-    rw (c .before .before .before .before .before .before .before .before .wide .ensures, c .before .before .before .before .before .before .before .wide2 .ensures, c .before .before .before .before .before .before .wide3 .ensures, c .before .before .before .before .before .wide8 .ensures, c .before .before .before .before .wide4 .ensures, c .before .before .before .wide5 .ensures, c .before .before .wide6 .ensures, c .before .wide82 .ensures, c .wide83 .ensures)
+returns c = rw (c .before .state-row .ensures, c .handle-row .ensures)
 
 pub taken-row-spec : {M : Type 1} → statement M
 taken-row-spec =
     tie.close
     (tie.spec
-    wide-requires
-    wide-requires-2
-    wide-requires-3
-    wide8-requires
-    wide-requires-4
-    wide-requires-5
-    wide-requires-6
-    wide8-requires-2
-    wide8-requires-3
+    state-row-requires
+    handle-row-requires
+    array-read-t11
+    array-read-t14
+    array-read-t17
+    array-read-t22
+    array-read-t25
+    array-read-t28
+    array-read-t31
     returns)

@@ -7,15 +7,11 @@ use borrow.Author.Needs.{needs}
 use lib.ListN.{length, take}
 use Rattle.wire.specs.Bytes.{laid}
 use Rattle.frame_reader.specs.Answers.{noPdu}
-use Rattle.export.specs.Told.{pduValues}
+use Rattle.pdu.specs.Answers.{pduValues}
 use Rattle.export.proofs.Flat.{flat-next}
 use Rattle.wire.proofs.Laws.{laid-none}
 use Rattle.export.proofs.reader.put_pdus.Statement.{statement}
 use Rattle.export.proofs.reader.put_pdus.Tie as tie
-use Rattle.export.proofs.reader.put_pdus.Reads as reads
-use Rattle.export.proofs.reader.put_pdus.Lts as lts
-use Rattle.export.proofs.reader.pdu_row.Reads as pdu-row-reads
-use Rattle.export.proofs.row.put.Reads as put-reads
 
 abbrev Inv-loop : tie.InvT-loop
 Inv-loop out₀ at n pdus i₀ p₀ out i p =

@@ -7,15 +7,11 @@ use borrow.Author.Needs.{needs}
 use lib.ListN.{length, take}
 use Rattle.wire.specs.Bytes.{laid}
 use Rattle.created_frame.specs.Frame.{fresh}
-use Rattle.export.specs.Told.{stateValues}
+use Rattle.created_frame.specs.Answers.{stateValues}
 use Rattle.export.proofs.Flat.{flat-next}
 use Rattle.wire.proofs.Laws.{laid-none}
 use Rattle.export.proofs.spreading.put_states.Statement.{statement}
 use Rattle.export.proofs.spreading.put_states.Tie as tie
-use Rattle.export.proofs.spreading.put_states.Reads as reads
-use Rattle.export.proofs.spreading.put_states.Lts as lts
-use Rattle.export.proofs.spreading.state_row.Reads as state-row-reads
-use Rattle.export.proofs.row.put.Reads as put-reads
 
 abbrev Inv-loop : tie.InvT-loop
 Inv-loop out₀ at n states i₀ p₀ out i p =

@@ -42,9 +42,9 @@ use denote.Triple.Table.{entered, cited}
 use denote.Exit.{yes}
 use denote.Triple.Walked.{says, Stays, stay-ref, stay-none, gave-slice, walkOf, goes-none, goes-ref, goes-gave-slice, Walks, ends-at, walked, walk-meets}
 use Rattle.refusal.specs.Said.{Said}
-use Rattle.eeprom.specs.Range.{exactSaid, exactBuf}
+use Rattle.eeprom.specs.Range.{exactSaid, exactPos, exactBuf}
 use Rattle.eeprom.specs.declared.Chunk.{Chunk}
-use Rattle.held.specs.Range.{alone, stands, movedTo}
+use Rattle.held.specs.Range.{movedTo}
 use Rattle.held.specs.Answers.{saidOutcome}
 use Rattle.held.specs.declared.EepromRange.{EepromRange}
 use Rattle.held.specs.declared.step.OutcomeStep.{OutcomeStep}
@@ -99,7 +99,7 @@ module _ {M : Type 1} (𝓤 : URA M) (H : Heap 𝓤) (A : Atoms 𝓤) (W : Given
   list = exactBuf (h .image .now) (h .«byte_pos») (h .end) (y .now)
 
   abbrev Got : OutcomeStep → List ℕ → Type 0
-  Got r zs = ((saidOutcome (r .answer) ≡ alone core) × (r .«byte_pos» ≡ stands (h .«byte_pos») core)) × (zs ≡ list)
+  Got r zs = ((saidOutcome (r .answer) ≡ core) × (r .«byte_pos» ≡ exactPos (h .image .now) (h .«byte_pos») (h .end) (length (y .now)))) × (zs ≡ list)
 
   abbrev h′ : OutcomeStep → EepromRange
   h′ r = movedTo h (r .«byte_pos»)

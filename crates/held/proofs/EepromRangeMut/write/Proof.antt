@@ -46,8 +46,7 @@ use denote.Exit.{yes}
 use denote.Signature.{Slot, plain, namedLft}
 use denote.Signature.Struct.{makes}
 use Rattle.refusal.specs.Said.{Said}
-use Rattle.eeprom.specs.Range.{writeSaid, writeImage}
-use Rattle.held.specs.Range.{alone, stands}
+use Rattle.eeprom.specs.Range.{writeSaid, writePos, writeImage}
 use Rattle.held.specs.Answers.{saidCounted}
 use Rattle.held.specs.declared.EepromRangeMut.{EepromRangeMut}
 use Rattle.held.specs.declared.CountStep.{CountStep}
@@ -116,7 +115,7 @@ module _ {M : Type 1} (𝓤 : URA M) (H : Heap 𝓤) (A : Atoms 𝓤) (W : Given
   list = writeImage ys n m (z .now)
 
   abbrev Got : CountStep → List ℕ → Type 0
-  Got r zs = ((saidCounted (r .answer) ≡ alone core) × (r .«byte_pos» ≡ stands n core)) × (zs ≡ list)
+  Got r zs = ((saidCounted (r .answer) ≡ core) × (r .«byte_pos» ≡ writePos ys n m (z .now))) × (zs ≡ list)
 
   abbrev Post : Val → SProp 𝓤
   Post = walkOf 𝓤 H A self.ended stayed (self.clauses 𝓤 H A at-mem run) .post (((κ, (κ′, (κ″, tt))), (q, (q′, (q″, tt))), bounds, a, vals), tt)

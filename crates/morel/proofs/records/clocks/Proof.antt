@@ -5,46 +5,40 @@ use Rattle.morel.proofs.records.clocks.Statement.{statement}
 use Rattle.morel.proofs.records.clocks.Tie as tie
 
 abbrev Inv-loop : tie.InvT-loop
-Inv-loop items n i₀ t7 i = Unit {0}
+Inv-loop cut items n status i₀ t9 i = Unit {0}
 
 abbrev μ-loop : tie.MeasureT-loop
-μ-loop items n i₀ t7 i = n - i
+μ-loop cut items n status i₀ t9 i = n - i
 
 lesser-requires : tie.Need-lesser-requires Inv-loop μ-loop
 lesser-requires c κs = search needs
 
-slice-aggregate-record : tie.Need-slice-aggregate-record Inv-loop μ-loop
-slice-aggregate-record c = search needs
+slice-aggregate-listed : tie.Need-slice-aggregate-listed Inv-loop μ-loop
+slice-aggregate-listed c = search needs
 
 listed-requires : tie.Need-listed-requires Inv-loop μ-loop
 listed-requires c κs = search needs
+
+loop-holds : tie.Need-loop-holds Inv-loop μ-loop
+loop-holds c = search needs
+
+slice-aggregate-record : tie.Need-slice-aggregate-record Inv-loop μ-loop
+slice-aggregate-record c = search needs
+
+mul-clock-row : tie.Need-mul-clock-row Inv-loop μ-loop
+mul-clock-row c = search needs
+
+array-copy-out-clock-row : tie.Need-array-copy-out-clock-row Inv-loop μ-loop
+array-copy-out-clock-row c = search needs
+
+clock-row-requires : tie.Need-clock-row-requires Inv-loop μ-loop
+clock-row-requires c κs = search needs
 
 slice-aggregate-record-2 : tie.Need-slice-aggregate-record-2 Inv-loop μ-loop
 slice-aggregate-record-2 c = search needs
 
 record-requires : tie.Need-record-requires Inv-loop μ-loop
 record-requires c κs = search needs
-
-loop-holds : tie.Need-loop-holds Inv-loop μ-loop
-loop-holds c = search needs
-
-slice-aggregate-record-3 : tie.Need-slice-aggregate-record-3 Inv-loop μ-loop
-slice-aggregate-record-3 c = search needs
-
-mul-clock-mode : tie.Need-mul-clock-mode Inv-loop μ-loop
-mul-clock-mode c = search needs
-
-array-copy-out-clock-mode : tie.Need-array-copy-out-clock-mode Inv-loop μ-loop
-array-copy-out-clock-mode c = search needs
-
-clock-mode-requires : tie.Need-clock-mode-requires Inv-loop μ-loop
-clock-mode-requires c κs = search needs
-
-slice-aggregate-record-4 : tie.Need-slice-aggregate-record-4 Inv-loop μ-loop
-slice-aggregate-record-4 c = search needs
-
-record-requires-2 : tie.Need-record-requires-2 Inv-loop μ-loop
-record-requires-2 c κs = search needs
 
 add-i : tie.Need-add-i Inv-loop μ-loop
 add-i c = search needs
@@ -65,17 +59,15 @@ clocks-spec =
     Inv-loop
     μ-loop
     lesser-requires
-    slice-aggregate-record
+    slice-aggregate-listed
     listed-requires
+    loop-holds
+    slice-aggregate-record
+    mul-clock-row
+    array-copy-out-clock-row
+    clock-row-requires
     slice-aggregate-record-2
     record-requires
-    loop-holds
-    slice-aggregate-record-3
-    mul-clock-mode
-    array-copy-out-clock-mode
-    clock-mode-requires
-    slice-aggregate-record-4
-    record-requires-2
     add-i
     loop-less
     loop-again

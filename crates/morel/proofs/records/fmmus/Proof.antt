@@ -5,22 +5,16 @@ use Rattle.morel.proofs.records.fmmus.Statement.{statement}
 use Rattle.morel.proofs.records.fmmus.Tie as tie
 
 abbrev Inv-loop : tie.InvT-loop
-Inv-loop head table items n i₀ i = Unit {0}
+Inv-loop cut name table items n status i₀ i = Unit {0}
 
 abbrev μ-loop : tie.MeasureT-loop
-μ-loop head table items n i₀ i = n - i
+μ-loop cut name table items n status i₀ i = n - i
 
 lesser-requires : tie.Need-lesser-requires Inv-loop μ-loop
 lesser-requires c κs = search needs
 
 listed-requires : tie.Need-listed-requires Inv-loop μ-loop
 listed-requires c κs = search needs
-
-slice-aggregate-record : tie.Need-slice-aggregate-record Inv-loop μ-loop
-slice-aggregate-record c = search needs
-
-record-requires : tie.Need-record-requires Inv-loop μ-loop
-record-requires c κs = search needs
 
 loop-holds : tie.Need-loop-holds Inv-loop μ-loop
 loop-holds c = search needs
@@ -31,11 +25,11 @@ array-read-wide8 c = search needs
 wide8-requires : tie.Need-wide8-requires Inv-loop μ-loop
 wide8-requires c κs = search needs
 
-slice-aggregate-record-2 : tie.Need-slice-aggregate-record-2 Inv-loop μ-loop
-slice-aggregate-record-2 c = search needs
+slice-aggregate-record : tie.Need-slice-aggregate-record Inv-loop μ-loop
+slice-aggregate-record c = search needs
 
-record-requires-2 : tie.Need-record-requires-2 Inv-loop μ-loop
-record-requires-2 c κs = search needs
+record-requires : tie.Need-record-requires Inv-loop μ-loop
+record-requires c κs = search needs
 
 add-i : tie.Need-add-i Inv-loop μ-loop
 add-i c = search needs
@@ -57,13 +51,11 @@ fmmus-spec =
     μ-loop
     lesser-requires
     listed-requires
-    slice-aggregate-record
-    record-requires
     loop-holds
     array-read-wide8
     wide8-requires
-    slice-aggregate-record-2
-    record-requires-2
+    slice-aggregate-record
+    record-requires
     add-i
     loop-less
     loop-again

@@ -5,10 +5,10 @@ use Rattle.morel.proofs.records.pdos.Statement.{statement}
 use Rattle.morel.proofs.records.pdos.Tie as tie
 
 abbrev Inv-loop : tie.InvT-loop
-Inv-loop head table items n i₀ i = Unit {0}
+Inv-loop cut name table items n status i₀ i = Unit {0}
 
 abbrev μ-loop : tie.MeasureT-loop
-μ-loop head table items n i₀ i = n - i
+μ-loop cut name table items n status i₀ i = n - i
 
 lesser-requires : tie.Need-lesser-requires Inv-loop μ-loop
 lesser-requires c κs = search needs
@@ -16,29 +16,23 @@ lesser-requires c κs = search needs
 listed-requires : tie.Need-listed-requires Inv-loop μ-loop
 listed-requires c κs = search needs
 
+loop-holds : tie.Need-loop-holds Inv-loop μ-loop
+loop-holds c = search needs
+
+mul-pdo-row : tie.Need-mul-pdo-row Inv-loop μ-loop
+mul-pdo-row c = search needs
+
+array-copy-out-pdo-row : tie.Need-array-copy-out-pdo-row Inv-loop μ-loop
+array-copy-out-pdo-row c = search needs
+
+pdo-row-requires : tie.Need-pdo-row-requires Inv-loop μ-loop
+pdo-row-requires c κs = search needs
+
 slice-aggregate-record : tie.Need-slice-aggregate-record Inv-loop μ-loop
 slice-aggregate-record c = search needs
 
 record-requires : tie.Need-record-requires Inv-loop μ-loop
 record-requires c κs = search needs
-
-loop-holds : tie.Need-loop-holds Inv-loop μ-loop
-loop-holds c = search needs
-
-mul-pdo : tie.Need-mul-pdo Inv-loop μ-loop
-mul-pdo c = search needs
-
-array-copy-out-pdo : tie.Need-array-copy-out-pdo Inv-loop μ-loop
-array-copy-out-pdo c = search needs
-
-pdo-requires : tie.Need-pdo-requires Inv-loop μ-loop
-pdo-requires c κs = search needs
-
-slice-aggregate-record-2 : tie.Need-slice-aggregate-record-2 Inv-loop μ-loop
-slice-aggregate-record-2 c = search needs
-
-record-requires-2 : tie.Need-record-requires-2 Inv-loop μ-loop
-record-requires-2 c κs = search needs
 
 add-i : tie.Need-add-i Inv-loop μ-loop
 add-i c = search needs
@@ -60,14 +54,12 @@ pdos-spec =
     μ-loop
     lesser-requires
     listed-requires
+    loop-holds
+    mul-pdo-row
+    array-copy-out-pdo-row
+    pdo-row-requires
     slice-aggregate-record
     record-requires
-    loop-holds
-    mul-pdo
-    array-copy-out-pdo
-    pdo-requires
-    slice-aggregate-record-2
-    record-requires-2
     add-i
     loop-less
     loop-again

@@ -6,10 +6,10 @@ use Rattle.morel.proofs.text.plain.Statement.{statement}
 use Rattle.morel.proofs.text.plain.Tie as tie
 
 abbrev Inv-loop : tie.InvT-loop
-Inv-loop text i₀ t3 i = Unit {0}
+Inv-loop text i₀ i = Unit {0}
 
 abbrev μ-loop : tie.MeasureT-loop
-μ-loop text i₀ t3 i = length text - i
+μ-loop text i₀ i = length text - i
 
 loop-holds : tie.Need-loop-holds Inv-loop μ-loop
 loop-holds c = search needs
@@ -29,12 +29,6 @@ loop-less c = search needs
 loop-again : tie.Need-loop-again Inv-loop μ-loop
 loop-again c = search needs
 
-slice-aggregate-say : tie.Need-slice-aggregate-say Inv-loop μ-loop
-slice-aggregate-say c = search needs
-
-say-requires : tie.Need-say-requires Inv-loop μ-loop
-say-requires c κs = search needs
-
 returns : tie.Need-returns Inv-loop μ-loop
 returns c = search needs
 
@@ -50,6 +44,4 @@ plain-spec =
     add-i
     loop-less
     loop-again
-    slice-aggregate-say
-    say-requires
     returns)

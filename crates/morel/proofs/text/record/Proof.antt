@@ -6,10 +6,10 @@ use Rattle.morel.proofs.text.record.Statement.{statement}
 use Rattle.morel.proofs.text.record.Tie as tie
 
 abbrev Inv-loop : tie.InvT-loop
-Inv-loop i table row at₀ k₀ at k = Unit {0}
+Inv-loop cut i table row at₀ k₀ at k = Unit {0}
 
 abbrev μ-loop : tie.MeasureT-loop
-μ-loop i table row at₀ k₀ at k = length row - k
+μ-loop cut i table row at₀ k₀ at k = length row - k
 
 loop-holds : tie.Need-loop-holds Inv-loop μ-loop
 loop-holds c = search needs
@@ -32,24 +32,6 @@ shared-slice-read-field c = search needs
 field-requires : tie.Need-field-requires Inv-loop μ-loop
 field-requires c κs = search needs
 
-mul-if2 : tie.Need-mul-if2 Inv-loop μ-loop
-mul-if2 c = search needs
-
-shared-slice-read-if2 : tie.Need-shared-slice-read-if2 Inv-loop μ-loop
-shared-slice-read-if2 c = search needs
-
-mul-refused : tie.Need-mul-refused Inv-loop μ-loop
-mul-refused c = search needs
-
-shared-slice-read-refused : tie.Need-shared-slice-read-refused Inv-loop μ-loop
-shared-slice-read-refused c = search needs
-
-refused-requires : tie.Need-refused-requires Inv-loop μ-loop
-refused-requires c κs = search needs
-
-returns : tie.Need-returns Inv-loop μ-loop
-returns c = search needs
-
 wrapping-add-usize-requires : tie.Need-wrapping-add-usize-requires Inv-loop μ-loop
 wrapping-add-usize-requires c κs = search needs
 
@@ -62,8 +44,11 @@ loop-less c = search needs
 loop-again : tie.Need-loop-again Inv-loop μ-loop
 loop-again c = search needs
 
-returns-2 : tie.Need-returns-2 Inv-loop μ-loop
-returns-2 c = search needs
+of-cut-requires : tie.Need-of-cut-requires Inv-loop μ-loop
+of-cut-requires c κs = search needs
+
+returns : tie.Need-returns Inv-loop μ-loop
+returns c = search needs
 
 pub record-spec : {M : Type 1} → statement M
 record-spec =
@@ -78,14 +63,9 @@ record-spec =
     mul-field
     shared-slice-read-field
     field-requires
-    mul-if2
-    shared-slice-read-if2
-    mul-refused
-    shared-slice-read-refused
-    refused-requires
-    returns
     wrapping-add-usize-requires
     add-k
     loop-less
     loop-again
-    returns-2)
+    of-cut-requires
+    returns)

@@ -5,10 +5,10 @@ use Rattle.morel.proofs.texts.all.Statement.{statement}
 use Rattle.morel.proofs.texts.all.Tie as tie
 
 abbrev Inv-loop : tie.InvT-loop
-Inv-loop image count i₀ t5 i = Unit {0}
+Inv-loop image cut count status₀ i₀ t7 status i = Unit {0}
 
 abbrev μ-loop : tie.MeasureT-loop
-μ-loop image count i₀ t5 i = count - i
+μ-loop image cut count status₀ i₀ t7 status i = count - i
 
 slice-aggregate-record : tie.Need-slice-aggregate-record Inv-loop μ-loop
 slice-aggregate-record c = search needs
@@ -30,6 +30,9 @@ slice-aggregate-string c = search needs
 
 string-requires : tie.Need-string-requires Inv-loop μ-loop
 string-requires c κs = search needs
+
+worse-requires : tie.Need-worse-requires Inv-loop μ-loop
+worse-requires c κs = search needs
 
 loop-less : tie.Need-loop-less Inv-loop μ-loop
 loop-less c = search needs
@@ -53,6 +56,7 @@ all-spec =
     add-i
     slice-aggregate-string
     string-requires
+    worse-requires
     loop-less
     loop-again
     returns)

@@ -1,18 +1,18 @@
--- The loop's invariant: what the search will take in the rounds that are left is what it takes in all eight.
+-- The loop's invariant: what the search will take in the rounds that are left is what it takes in all of them.
 use mathlib.Core.Path.{_≡_, refl, ap, _∙_}
 use Prim.Native.Nat.{_+_, _-_, _≤_}
 use borrow.Author.Needs.{needs}
 use Rattle.ports.specs.Ports.{activePorts}
-use Rattle.ports.specs.Assigning.{repeated, finds}
+use Rattle.ports.specs.Assigning.{repeated, rounds, finds}
 use Rattle.ports.proofs.Search.{repeated-next, finds-start, finds-taken, finds-none}
 use Rattle.ports.proofs.assign.next_assignable_port.Statement.{statement}
 use Rattle.ports.proofs.assign.next_assignable_port.Tie as tie
 
 abbrev Inv-loop : tie.InvT-loop
-Inv-loop p e l₀ i₀ l i = (i ≤ 8) × (finds p l (repeated (8 - i) (activePorts p)) ≡ finds p l₀ (repeated 8 (activePorts p)))
+Inv-loop p e l₀ i₀ l i = (i ≤ rounds) × (finds p l (repeated (rounds - i) (activePorts p)) ≡ finds p l₀ (repeated rounds (activePorts p)))
 
 abbrev μ-loop : tie.MeasureT-loop
-μ-loop p e l₀ i₀ l i = 8 - i
+μ-loop p e l₀ i₀ l i = rounds - i
 
 add-t5 : tie.Need-add-t5 Inv-loop μ-loop
 add-t5 c = search needs
@@ -30,7 +30,7 @@ loop-less : tie.Need-loop-less Inv-loop μ-loop
 loop-less c = search needs
 
 loop-again : tie.Need-loop-again Inv-loop μ-loop
-loop-again c = (search needs, c .turn .ensures (repeated (8 - (c .before .before .loop .i + 1)) (activePorts (c .before .before .before .args .p))) ∙ ap (finds (c .before .before .before .args .p) (c .before .before .loop .l)) (repeated-next (activePorts (c .before .before .before .args .p)) (c .before .before .loop .i) (search needs)) ∙ c .before .before .loop .inv .1)
+loop-again c = (search needs, c .turn .ensures (repeated (rounds - (c .before .before .loop .i + 1)) (activePorts (c .before .before .before .args .p))) ∙ ap (finds (c .before .before .before .args .p) (c .before .before .loop .l)) (repeated-next (activePorts (c .before .before .before .args .p)) (c .before .before .loop .i) (search needs)) ∙ c .before .before .loop .inv .1)
 
 returns : tie.Need-returns Inv-loop μ-loop
 returns c = finds-taken (c .before .before .before .before .args .p) (c .before .before .before .loop .l) (c .before .before .before .loop .i) (c .if1 .taken) ∙ c .before .before .before .loop .inv .1 ∙ finds-start (c .before .before .before .before .args .p) (c .before .before .before .before .args .e) (c .before .before .before .before .pre .0)

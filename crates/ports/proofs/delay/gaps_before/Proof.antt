@@ -4,12 +4,12 @@ use Prim.Native.Nat.{_-_, _*_, _≤_}
 use native.Mathlib.Numerals.{add-one}
 use native.Mathlib.Omega.{arith}
 use borrow.Author.Needs.{needs}
-use Rattle.ports.specs.Delays.{gaps}
+use Rattle.ports.specs.Delays.{gaps, sumMost}
 use Rattle.ports.proofs.delay.gaps_before.Statement.{statement}
 use Rattle.ports.proofs.delay.gaps_before.Tie as tie
 
 abbrev Inv-loop : tie.InvT-loop
-Inv-loop p k sum₀ j₀ sum j = (j ≤ k) × (sum ≡ gaps p j) × (sum ≤ j * 4294967295)
+Inv-loop p k sum₀ j₀ sum j = (j ≤ k) × (sum ≡ gaps p j) × (sum ≤ j * sumMost)
 
 abbrev μ-loop : tie.MeasureT-loop
 μ-loop p k sum₀ j₀ sum j = k - j

@@ -4,21 +4,22 @@ use Prim.Native.Nat.{_+_, _-_, _*_, _≤_}
 use native.Mathlib.Omega.{arith}
 use lib.ListN.{length}
 use borrow.Author.Needs.{needs}
-use Rattle.ports.specs.Display.{words}
+use Rattle.ports.specs.Display.{opening, wordMost, words}
+use Rattle.ports.specs.Ports.{portCount, nowhere}
 use Rattle.wire.proofs.Stretch.{Front, front-start}
 use Rattle.ports.proofs.Words.{word-next}
 use Rattle.ports.proofs.text.put_words.Statement.{statement}
 use Rattle.ports.proofs.text.put_words.Tie as tie
 
 abbrev Inv-loop : tie.InvT-loop
-Inv-loop p buf₀ at₀ k₀ buf at k = (k ≤ 4) × (at ≤ 8 + 7 * k) × (length buf ≡ length buf₀) × Front buf₀ 8 (words p k) buf at
+Inv-loop p buf₀ at₀ k₀ buf at k = (k ≤ nowhere) × (at ≤ length opening + wordMost * k) × (length buf ≡ length buf₀) × Front buf₀ (length opening) (words p k) buf at
 
 abbrev μ-loop : tie.MeasureT-loop
-μ-loop p buf₀ at₀ k₀ buf at k = 4 - k
+μ-loop p buf₀ at₀ k₀ buf at k = nowhere - k
 
 loop-holds : tie.Need-loop-holds Inv-loop μ-loop
 unfolding words
-loop-holds c = (search needs, search needs, refl, front-start (c .before .args .buf .now) 8)
+loop-holds c = (search needs, search needs, refl, front-start (c .before .args .buf .now) (length opening))
 
 port-at-requires : tie.Need-port-at-requires Inv-loop μ-loop
 port-at-requires c κs = search needs
@@ -39,7 +40,7 @@ same-length : tie.Need-same-length Inv-loop μ-loop
 same-length c = search needs
 
 returns : tie.Need-returns Inv-loop μ-loop
-returns c = let e : c .before .loop .k ≡ 4 = omega arith in let f : Front (c .before .before .before .args .buf .now) 8 (words (c .before .before .before .args .p) 4) (c .before .loop .buf) (c .before .loop .at) = rw e at (c .before .loop .inv .3) in (f .next, f .so-far)
+returns c = let e : c .before .loop .k ≡ portCount = omega arith in let f : Front (c .before .before .before .args .buf .now) (length opening) (words (c .before .before .before .args .p) portCount) (c .before .loop .buf) (c .before .loop .at) = rw e at (c .before .loop .inv .3) in (f .next, f .so-far)
 
 pub put-words-spec : {M : Type 1} → statement M
 put-words-spec =

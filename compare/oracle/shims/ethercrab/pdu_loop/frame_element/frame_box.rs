@@ -1,7 +1,7 @@
 //! Stands for ethercrab's pdu_loop/frame_element/frame_box.rs: a frame's memory and the running PDU index, as created_frame.rs and received_frame.rs ask for
 //! them.
 //!
-//! GUESS: opening (`init`) zeroes everything after the Ethernet header, which created_frame.rs relies on ('the buffer is zero-initialised') and document 01
+//! GUESS: opening (`init`) zeroes everything after the Ethernet header, which created_frame.rs relies on ('the buffer is zero-initialised') and RULES, frames,
 //! says; the index is the storage's atomic counter, which wraps from 255 to 0; the area is the frame's length less the Ethernet and EtherCAT headers;
 //! adding a PDU raises the used bytes by its size.
 
