@@ -23,6 +23,9 @@ use crate::text::say;
 use crate::words::is_word;
 use crate::words::number;
 use check::same;
+use eeprom::IMAGE_MOST;
+use pdu::AREA_MOST;
+use pdu::FRAME_HEADER_BYTES;
 use std::num::wrapping_add_usize;
 use std::num::wrapping_sub_usize;
 
@@ -121,7 +124,11 @@ fn file_at(command: u8, at: usize) -> usize {
 
 // The most bytes of the file: an image's; a frame's header, and the most that its 11 bits count.
 fn most(command: u8) -> usize {
-    if command == FRAME { 2049 } else { 65536 }
+    if command == FRAME {
+        FRAME_HEADER_BYTES + AREA_MOST
+    } else {
+        IMAGE_MOST
+    }
 }
 
 // Reads the command's file, and does what it is to do.
@@ -133,7 +140,7 @@ fn on_file(command: u8, name: &[u8], at: usize) -> u8 {
     let mut room = io::large_buffer();
     let k = os::arg(file_at(command, at), &mut path);
     let n = file::read(name, &path[..k], front_mut(&mut room, most(command)));
-    if n <= 65536 {
+    if n <= IMAGE_MOST {
         act(command, at, &path[..k], front_mut(&mut room, n))
     } else {
         UNUSABLE

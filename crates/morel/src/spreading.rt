@@ -13,6 +13,7 @@ use crate::text::record;
 use crate::text::refused;
 use crate::words::UNREADABLE;
 use created_frame::Builder;
+use pdu::AREA_MOST;
 use spread::SpreadAnswer;
 use spread::Spreading;
 use std::num::wrapping_add_usize;
@@ -21,7 +22,7 @@ use wire::lesser;
 
 // The bytes of a row of areas. None where the bounds are passed: spreading over no area is refused as it is over such a row.
 fn row(size: u64, areas: u64) -> usize {
-    if 2047 < size {
+    if (AREA_MOST as u64) < size {
         0
     } else if 32 < areas {
         0
