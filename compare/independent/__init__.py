@@ -17,10 +17,12 @@ How to run it, from the repository's root:
 
 One request a line goes in, one answer a line comes out. It needs Python 3
 and nothing else. Answers are written as soon as the lines of one read are
-done, so it can also be asked in batches through a pipe.
+done, so it can also be asked in batches through a pipe. With `--before E1`
+it answers by the rules as they were before that request (see amended.py).
 
 Where things are:
 
+    amended.py   which amendments of the rules are in force
     refusal.py   the fourteen refusals
     crc.py       the checksum
     eeprom.py    the EEPROM range

@@ -1,6 +1,6 @@
 """Strings, device name, description."""
 
-from . import category, eeprom, sii
+from . import amended, category, eeprom, sii
 from .refusal import (
     ABSENT, BAD_ARGUMENT, STRING_TOO_LONG, Refusal, refuse_unless,
 )
@@ -21,14 +21,12 @@ def string(image, index, room):
     check_room(room)
     if index == 0:
         return ABSENT
-    before = index - 1
     at = category.category(image, category.STRINGS)
     if at is ABSENT:
         return ABSENT
-    # "s greater than the count: absent", so s equal to it still goes on.
-    if before > eeprom.read_byte(image, at):
+    if index > _highest(eeprom.read_byte(image, at)):
         return ABSENT
-    for _ in range(before):
+    for _ in range(index - 1):
         eeprom.skip_ahead_bytes(at, eeprom.read_byte(image, at))
     length = eeprom.read_byte(image, at)
     if length > len(room):
@@ -39,6 +37,15 @@ def string(image, index, room):
     result = _cleaned(raw)
     room[:len(result)] = result
     return len(result)
+
+
+def _highest(count):
+    """The highest index that is looked for."""
+    if amended.in_force("E1"):
+        # "an index greater than the count is absent"
+        return count
+    # "compares the index less 1 with the count"
+    return count + 1
 
 
 def _cleaned(raw):

@@ -13,7 +13,7 @@ from functools import lru_cache
 HERE = os.path.dirname(os.path.abspath(__file__))
 sys.path.insert(0, os.path.dirname(HERE))
 
-from independent import desk, requests, spread  # noqa: E402
+from independent import amended, desk, requests, spread  # noqa: E402
 from independent.crc import crc  # noqa: E402
 
 
@@ -93,7 +93,7 @@ class Bench(Case):
         line = "string " + image((10, BENCH_STRINGS)) + " 4 {} eeeeeeee"
         self.says(line.format(1), "gives 2 | 413feeee")
         self.says(line.format(2), "gives 1 | 42eeeeee")
-        self.says(line.format(3), "gives 0 | eeeeeeee")
+        self.says(line.format(3), "absent | eeeeeeee")
         self.says(line.format(4), "absent | eeeeeeee")
 
     def test_all_four_active(self):
@@ -825,9 +825,20 @@ class Strings(Case):
                   "gives 0 | -")
 
     def test_skip_onto_the_end(self):
-        # Count 1; string 1 ends with the category; string 2 can't be reached.
-        body = bytes.fromhex("01024142")
+        # Count 2; string 1 ends with the category; string 2 can't be reached.
+        body = bytes.fromhex("02024142")
         self.says(f"string {image((10, body))} 4 2 eeee", "refuses 2 | eeee")
+
+    def test_index_above_the_count(self):
+        # Of no strings the first is absent, whatever follows the count.
+        self.says(f"string {image((10, bytes.fromhex('00014142')))} 4 1 eeee",
+                  "absent | eeee")
+        # The last that there can be.
+        full = bytes([255]) + b"\x01A" * 255 + b"\x01"
+        self.says(f"string {image((10, full))} 4 255 eeee", "gives 1 | 41ee")
+        less = bytes([254]) + full[1:]
+        self.says(f"string {image((10, less))} 4 254 eeee", "gives 1 | 41ee")
+        self.says(f"string {image((10, less))} 4 255 eeee", "absent | eeee")
 
     def test_count_and_length_are_read_past_the_end(self):
         # An empty strings category: the bytes after it are looked at. They
@@ -863,6 +874,16 @@ class Strings(Case):
     def test_name_and_description(self):
         self.says(f"name {self.both()} 4 eeee", "gives 1 | 43ee")
         self.says(f"desc {self.both()} 4 eeee", "gives 1 | 44ee")
+
+    def test_name_and_description_above_the_count(self):
+        # Order index 3, name index 4.
+        for count, name, desc in ((4, "gives 1 | 43ee", "gives 1 | 44ee"),
+                                  (3, "gives 1 | 43ee", "absent | eeee"),
+                                  (2, "absent | eeee", "absent | eeee")):
+            body = bytes([count]) + bytes.fromhex("014101420143014400")
+            some = image((10, body), (30, GENERAL))
+            self.says(f"name {some} 4 eeee", name)
+            self.says(f"desc {some} 4 eeee", desc)
 
     def test_without_general(self):
         self.says("name - 4 eeee", "absent | eeee")
@@ -1305,6 +1326,65 @@ def exhaustive(frees, length):
     return any(
         exhaustive((frees[0] - 12 - piece,) + frees[1:], length - piece)
         for piece in range(1, length + 1) if piece + 12 <= frees[0])
+
+
+class Amended(Case):
+    """The rules before a request, by its switch; now as in the tests above."""
+
+    def before(self, name, line, then, now):
+        with amended.before(name):
+            self.says(line, then)
+        self.says(line, now)
+
+    def test_string_one_past_the_count(self):
+        # The index less 1 was compared with the count, so 3 of 2 was looked
+        # for; the byte behind the second string is its length, 0.
+        bench = "string " + image((10, BENCH_STRINGS)) + " 4 {} eeeeeeee"
+        self.before("E1", bench.format(2), *["gives 1 | 42eeeeee"] * 2)
+        self.before("E1", bench.format(3), "gives 0 | eeeeeeee",
+                    "absent | eeeeeeee")
+        self.before("E1", bench.format(4), *["absent | eeeeeeee"] * 2)
+        # No strings, then a length of 1 and its byte; a length of 9, which
+        # the room has not; and a skip onto the end.
+        for body, index, then in (("00014142", 1, "gives 1 | 41ee"),
+                                  ("00094142", 1, "refuses 4 2 9 | eeee"),
+                                  ("01024142", 2, "refuses 2 | eeee")):
+            self.before("E1", f"string {image((10, bytes.fromhex(body)))} 4 "
+                        f"{index} eeee", then, "absent | eeee")
+
+    def test_name_one_past_the_count(self):
+        # Order index 3 and name index 4, of two and of three strings.
+        for word, count, text in (("name", 2, "43"), ("desc", 3, "44")):
+            body = bytes([count]) + bytes.fromhex("014101420143014400")
+            some = image((10, body), (30, GENERAL))
+            self.before("E1", f"{word} {some} 4 eeee", f"gives 1 | {text}ee",
+                        "absent | eeee")
+
+    def test_names(self):
+        for name in ("E3", "E99", "", "e1"):
+            self.assertRaises(amended.NoAmendment, amended.switch_off, name)
+        for words in (["--before"], ["E1"], ["--before", "E3"],
+                      ["--before", "E1", "E1"], ["--after", "E1"]):
+            with amended.before():
+                self.assertRaises(amended.NoAmendment, amended.take_words,
+                                  words)
+        for name in amended.NAMES:
+            self.assertTrue(amended.in_force(name))
+            with amended.before(name):
+                self.assertFalse(amended.in_force(name))
+
+    def test_program(self):
+        line = f"string {image((10, BENCH_STRINGS))} 4 3 ee".encode()
+        for words, said in (([], b"absent | ee\n"),
+                            (["--before", "E1"], b"gives 0 | ee\n")):
+            done = subprocess.run([sys.executable, HERE, *words], input=line,
+                                  stdout=subprocess.PIPE, check=True)
+            self.assertEqual(done.stdout, said)
+        done = subprocess.run([sys.executable, HERE, "--before", "E3"],
+                              input=line, stdout=subprocess.PIPE,
+                              stderr=subprocess.PIPE, check=False)
+        self.assertEqual((done.returncode, done.stdout), (2, b""))
+        self.assertIn(b"E3 amends no answer", done.stderr)
 
 
 class Refusals(Case):

@@ -9,6 +9,7 @@ import tempfile
 
 HERE = os.path.dirname(os.path.dirname(os.path.abspath(__file__)))
 ROOT = os.path.dirname(HERE)
+DESK = os.path.join(ROOT, "target", "bin", "desk")
 NAMES = ("desk", "oracle", "independent")
 
 # What a program is taken to say where it ended instead, and what is noted of
@@ -100,6 +101,12 @@ def _independent():
     return [sys.executable, os.path.join(HERE, "independent")]
 
 
+def before(names):
+    """The independent program, with these requests' amendments switched off."""
+    words = [word for name in names for word in ("--before", name)]
+    return Program("independent", _independent() + words)
+
+
 def _oracle():
     if not shutil.which("cargo"):
         raise Missing("there is no cargo to build it with")
@@ -116,10 +123,16 @@ def _oracle():
 
 
 def _desk():
-    program = os.path.join(ROOT, "target", "bin", "desk")
-    if not os.path.exists(program):
+    if not os.path.exists(DESK):
         raise Missing("there is no target/bin/desk; `rt check desk` makes it")
-    return kit_words() + [program]
+    return kit_words() + [DESK]
+
+
+def desk_at(path):
+    """A desk that was built before, and kept there."""
+    if not os.path.exists(path):
+        raise Missing(f"there is no {path}")
+    return Program("desk", kit_words() + [os.path.abspath(path)])
 
 
 def kit_words():

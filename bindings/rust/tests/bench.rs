@@ -93,7 +93,7 @@ fn strings() {
     let mut room = [0xA5u8; 8];
     assert_eq!(eeprom.find_string(1, &mut room), Ok(Some(&b"A?"[..])));
     assert_eq!(eeprom.find_string(2, &mut room), Ok(Some(&b"B"[..])));
-    assert_eq!(eeprom.find_string(3, &mut room), Ok(Some(&b""[..])));
+    assert_eq!(eeprom.find_string(3, &mut room), Ok(None));
     assert_eq!(eeprom.find_string(4, &mut room), Ok(None));
     assert_eq!(eeprom.find_string(1, &mut room[..2]), Err(Refusal::StringTooLong { room: 2, stored: 3 }));
     assert_eq!(eeprom.find_string(1, &mut [0; 256]), Err(Refusal::BadArgument));

@@ -6,6 +6,7 @@ used as a library, so that a request can go on from the answer before it.
 """
 
 import random
+from math import ceil
 
 from . import frames, malformed, ports, ranges, setup, sii, spread, strings
 
@@ -23,11 +24,17 @@ TOPICS = (
 )
 
 
-def requests(count, seed, notes=None):
+def requests(count, seed, notes=None, topics=TOPICS):
     """About `count` request lines. `notes` is told what share of the small
     cases was taken."""
-    for topic, share in TOPICS:
-        yield from of_topic(topic, -(-count * share // 100), seed, notes)
+    for topic, share in topics:
+        yield from of_topic(topic, ceil(count * share / 100), seed, notes)
+
+
+def often(*chosen):
+    """The topics' shares where half of the requests are of these."""
+    return [(topic, share / 2 + (50 / len(chosen) if topic in chosen else 0))
+            for topic, share in TOPICS]
 
 
 def of_topic(topic, wanted, seed, notes=None):

@@ -75,7 +75,7 @@ cases =
     -- strings 1 to 4: `A?`, `B`, the empty string, absent
     ∷ row (stringNo 1) (gives (0x41 ∷ 0x3F ∷ []))
     ∷ row (stringNo 2) (gives (0x42 ∷ []))
-    ∷ row (stringNo 3) (gives [])
+    ∷ row (stringNo 3) absent
     ∷ row (stringNo 4) absent
     -- total; intermediate to port 2
     ∷ row (totalSaid four) (gives (300 ∷ []))

@@ -8,7 +8,7 @@ use mathlib.Core.List.{List, [], _∷_, _++_}
 use mathlib.Core.Bool.{Bool, true, false}
 use lib.ListN.{length, getD, set, length-append}
 use lib.Dec.{eqb, ltb, leb}
-use borrow.Author.Tests.{lt-ltb, le-ltb, eq-eqb, ne-eqb, ltb-true, ltb-false, leb-true, leb-false}
+use borrow.Author.Tests.{lt-ltb, le-ltb, le-leb, lt-leb, eq-eqb, ne-eqb, ltb-true, ltb-false, leb-true, leb-false}
 use Rattle.refusal.specs.Said.{Said, gives, absent, refuses, on2, on3, pick}
 use Rattle.refusal.proofs.Tests.{both}
 use Rattle.wire.specs.Bytes.{byteAt, span, overlay}
@@ -27,7 +27,16 @@ use Rattle.strings.specs.Answers.{Small}
 -- an index that the count has is looked for
 pub past-not : (s count : ℕ) → s < count → stringPast s count ≡ false
 unfolding stringPast
-past-not s count h = le-ltb count s (omega arith)
+past-not s count h = lt-leb count s h
+
+-- .. and no other
+pub not-past : (s count : ℕ) → stringPast s count ≡ false → s < count
+unfolding stringPast
+not-past s count h = leb-false count s h
+
+pub past-all : (s count : ℕ) → count ≤ s → stringPast s count ≡ true
+unfolding stringPast
+past-all s count h = le-leb count s h
 
 -- ---- bytes that are read exactly
 

@@ -23,7 +23,7 @@ use Rattle.category.proofs.First.{Readable, category-readable, found-first}
 use Rattle.strings.specs.Strings.{stringPast, passedOne, passed, fitted, stringHere, stringBehind, stringIn, soughtAt, shown, textSaid, roomMost, fits, bounded, textFor, stringSaid}
 use Rattle.strings.specs.Plain.{Plain}
 use Rattle.strings.specs.Stored.{Lies, textBytes, rowBytes, stringsBytes, Stored, TextOf}
-use Rattle.strings.proofs.Laws.{past-not, sought-on, fitted-at, fitted-given}
+use Rattle.strings.proofs.Laws.{past-not, not-past, past-all, sought-on, fitted-at, fitted-given}
 use Rattle.strings.proofs.Given.{plain-shown}
 
 -- ---- bytes that lie in an image
@@ -163,10 +163,22 @@ module _ (image : List ℕ) (end k : ℕ) (r : Readable image end) where
       let q = behind-there ts i (pos + 1) h l (omega (arith, s .inside)) n in
       record { place = q .place; gave = in-category image end r i k pos (omega (arith, s .inside)) ∙ rw (c, past-not i (length ts) h) (q .gave); lies = q .lies }
 
+  -- .. and no text behind the last
+  in-absent : (ts : List (List ℕ)) (i pos : ℕ) → length ts ≤ i → Stored image pos end ts → stringIn image i k pos end ≡ absent
+  unfolding stringsBytes
+  in-absent ts i pos h s =
+      let c = lies-first image pos (length ts) (rowBytes ts) (s .lies) in
+      in-category image end r i k pos (omega (arith, s .inside)) ∙ rw (c, past-all i (length ts) h)
+
 -- the text at a place that was found
 text-said : (image : List ℕ) (k : ℕ) (said : Said) (text : List ℕ) → within image ≡ true → k ≤ roomMost → At image said text → textFor image k said ≡ gives (shown text)
 unfolding textFor bounded fits textSaid on2 Lies
 text-said image k said text w m t = rw (w, le-leb k roomMost m, t .gave, t .lies)
+
+-- .. and where none was
+no-text : (image : List ℕ) (k : ℕ) (said : Said) → within image ≡ true → k ≤ roomMost → said ≡ absent → textFor image k said ≡ absent
+unfolding textFor bounded fits textSaid on2
+no-text image k said w m a = rw (w, le-leb k roomMost m, a)
 
 module _ (image : List ℕ) (pos end : ℕ) (c : categorySaid image strings ≡ gives (pos ∷ end ∷ [])) where
   sought-in : (i k : ℕ) → soughtAt image (i + 1) k ≡ stringIn image i k pos end
@@ -184,6 +196,13 @@ module _ (image : List ℕ) (pos end : ℕ) (c : categorySaid image strings ≡ 
         let t = in-there image end k r ts i pos h s n in
         text-said image k (soughtAt image (i + 1) k) (getD ts i []) (r .short) m
         (record { place = t .place; gave = sought-in i k ∙ t .gave; lies = t .lies })
+
+    -- an index above the count is absent, whatever lies behind the last text
+    pub stored-absent : (i k : ℕ) → length ts ≤ i → k ≤ roomMost → stringSaid image (i + 1) k ≡ absent
+    unfolding stringSaid
+    stored-absent i k h m =
+        let r = category-readable image strings pos end c in
+        no-text image k (soughtAt image (i + 1) k) (r .short) m (sought-in i k ∙ in-absent image end k r ts i pos h s)
 
     -- plain texts as they are stored
     pub stored-plain : (i k : ℕ) → i < length ts → length (getD ts i []) ≤ k → k ≤ roomMost → Plain (getD ts i []) → stringSaid image (i + 1) k ≡ gives (getD ts i [])
@@ -248,13 +267,13 @@ module _ (image : List ℕ) (end k : ℕ) (r : Readable image end) where
           absurd (omega arith)
 
   -- the count admits it
-  row-in : (s pos : ℕ) (l : List ℕ) → pos + 1 < end → stringIn image s k pos end ≡ gives l → (stringPast s (byteAt image pos) ≡ false) × Row image (pos + 1) end k s l
+  row-in : (s pos : ℕ) (l : List ℕ) → pos + 1 < end → stringIn image s k pos end ≡ gives l → (s < byteAt image pos) × Row image (pos + 1) end k s l
   row-in s pos l h p = go (stringPast s (byteAt image pos)) refl (sym (in-category image end r s k pos (omega arith)) ∙ p)
     where
       go : (t : Bool) → stringPast s (byteAt image pos) ≡ t → pick t absent (stringBehind image s k (pos + 1) end) ≡ gives l →
-          (stringPast s (byteAt image pos) ≡ false) × Row image (pos + 1) end k s l
+          (s < byteAt image pos) × Row image (pos + 1) end k s l
       go true q c = let z : _≡_ {A = ℕ} 0 1 = cc in absurd (omega arith)
-      go false q c = (q, row-behind s (pos + 1) l h c)
+      go false q c = (not-past s (byteAt image pos) q, row-behind s (pos + 1) l h c)
 
 -- a text that is given is what is shown of the bytes at a place
 text-place : (image : List ℕ) (k : ℕ) (said : Said) (text : List ℕ) → textFor image k said ≡ gives text → (l : List ℕ) × (said ≡ gives l) × (text ≡ shown (span image (getD l 0 0) (getD l 1 0)))

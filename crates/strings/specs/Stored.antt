@@ -1,11 +1,10 @@
 -- Strings as the standard stores them: a count, then the length and the bytes of each (ETG1000.6 Table 20), without how they are read. Definitions only.
-use Prim.Native.Nat.{ℕ, _+_, _≤_}
+use Prim.Native.Nat.{ℕ, _+_, _≤_, _<_}
 use mathlib.Core.Path.{_≡_}
 use mathlib.Core.List.{List, [], _∷_, _++_}
-use mathlib.Core.Bool.{false}
 use lib.ListN.{length, getD}
 use Rattle.wire.specs.Bytes.{byteAt, span}
-use Rattle.strings.specs.Strings.{stringPast, shown}
+use Rattle.strings.specs.Strings.{shown}
 
 -- the image holds these bytes from p on
 unfoldable pub Lies : List ℕ → ℕ → List ℕ → Type 0
@@ -31,7 +30,7 @@ pub record Stored (image : List ℕ) (pos end : ℕ) (texts : List (List ℕ)) :
 
 -- a text with i before it in the category from pos to end: the last of the i + 1 that are stored behind the count, which admits it; it has room, and is shown so
 pub record TextOf (image : List ℕ) (pos end i room : ℕ) (text : List ℕ) : Type 0 where
-  pub counted : stringPast i (byteAt image pos) ≡ false
+  pub counted : i < byteAt image pos
   pub texts : List (List ℕ)
   pub many : length texts ≡ i + 1
   pub lies : Lies image (pos + 1) (rowBytes texts)

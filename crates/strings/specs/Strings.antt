@@ -14,9 +14,9 @@ use Rattle.category.specs.Category.{categorySaid}
 
 -- ---- where a string stands
 
--- s strings are to be passed over, and the count says that there are too few
+-- s strings are to be passed over, and the count has no further one: an index above the count is absent
 unfoldable pub stringPast : ℕ → ℕ → Bool
-stringPast s count = ltb count s
+stringPast s count = leb count s
 
 -- one string is passed over: a length is read, and skipped
 unfoldable pub passedOne : List ℕ → ℕ → ℕ → Said

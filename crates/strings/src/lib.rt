@@ -138,11 +138,11 @@ fn in_strings(image: &[u8], chunk: Chunk, g: Range, s: u8, room: u16) -> Place
     }
 }
 
-// There are too few strings to pass over s of them.
+// The count has no string behind s of them.
 fn past(s: u8, count: u8) -> bool
     ensures { λ r. ⌜ r ≡ stringPast s count ⌝ }
 {
-    count < s
+    count <= s
 }
 
 // .. behind s strings.

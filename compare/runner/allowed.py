@@ -1,0 +1,35 @@
+"""Which answers a request may change: a class of request lines for each.
+
+Each is written from the request's own words. It looks at the line and the
+image in it, at no answer. A line outside it must be answered as before; a
+line in it may be answered as before too.
+"""
+
+from .cases import strings
+from .looked import string_count, string_index
+
+CLASSES = {}
+
+
+class Class:
+    def __init__(self, topics, holds):
+        self.topics = topics
+        self.holds = holds
+
+
+def may_change(name, *topics):
+    """Enters a class, with the topics of the cases that are in it often."""
+
+    def enter(holds):
+        CLASSES[name] = Class(topics, holds)
+        return holds
+
+    return enter
+
+
+@may_change("E1", strings)
+def _one_past_the_count(request):
+    """A string's index, the device name's and the description's too, that is
+    exactly the count and 1."""
+    count = string_count(request)
+    return count is not None and string_index(request) == count + 1

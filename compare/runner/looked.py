@@ -1,0 +1,123 @@
+"""What a request's image and ports hold, so far as a rule of differences.py or
+a class of allowed.py looks at it. Written apart from the three programs."""
+
+HIGHEST = 65_535
+IMAGE_LIMIT = 65_536
+
+
+def byte_at(image, place):
+    return image[place] if place < len(image) else 0xFF
+
+
+def word_at(image, word):
+    return byte_at(image, 2 * word) + 256 * byte_at(image, 2 * word + 1)
+
+
+def active_times(request):
+    """By place: the time of an active port, else None."""
+    return [getattr(request, f"time{place}")
+            if getattr(request, f"active{place}") else None
+            for place in range(4)]
+
+
+def rises_before(request):
+    """The intermediate sum: neighbours up to the port's place."""
+    place = (0, 2, 3, 1)[request.port]
+    times = active_times(request)[:place + 1]
+    return sum(max(0, later - earlier)
+               for earlier, later in zip(times, times[1:])
+               if earlier is not None and later is not None)
+
+
+MOVE_PASSES = "a move passes 65,535"
+END_ABOVE = "the range ends above 65,535"
+ABSENT = "absent"
+
+SOUGHT = {"general": (30,), "sms": (41,), "usages": (41,), "fmmus": (40,),
+          "fmmuex": (42,),
+          "string": (10,), "name": (30, 10), "desc": (30, 10)}
+
+
+def searches(request):
+    """How the category searches of this request come out."""
+    if request.kind in ("category", "pdos"):
+        sought = (request.number,)
+    else:
+        sought = SOUGHT.get(request.kind, ())
+    if not sought or len(request.image) > IMAGE_LIMIT:
+        return ()
+    return [search(request.image, number) for number in sought]
+
+
+def search(image, number):
+    """(position, end) of the category, or one of the three names above."""
+    word = 0x40
+    empty = 0
+    while True:
+        kind, length = word_at(image, word), word_at(image, word + 1)
+        word += 2
+        empty += length == 0
+        if word > HIGHEST or empty == 32:
+            return ABSENT
+        if kind == number:
+            end = 2 * (word + length)
+            return (2 * word, end) if end <= HIGHEST else END_ABOVE
+        if kind == 0xFFFF:
+            return ABSENT
+        word += length
+        if word > HIGHEST:
+            return MOVE_PASSES
+
+
+SKIP_PASSES = "a skip passes 65,535"
+BYTE_AT_THE_TOP = "a byte is read at 65,535"
+INDEX_AT = {"name": 2, "desc": 3}
+
+
+def strings_at(request):
+    """(position, end) of the strings that this request looks into, or None."""
+    if (request.kind not in ("string", "name", "desc")
+            or len(request.image) > IMAGE_LIMIT):
+        return None
+    found = search(request.image, 10)
+    if string_index(request) in (None, 0) or not isinstance(found, tuple):
+        return None
+    return found
+
+
+def string_count(request):
+    """The count of those strings, or None."""
+    found = strings_at(request)
+    return byte_at(request.image, found[0]) if found else None
+
+
+def string_search(request):
+    """Where a string search meets the top of the addresses first, or None."""
+    found = strings_at(request)
+    if found is None:
+        return None
+    index = string_index(request)
+    position, end = found
+    for left in range(index, -1, -1):
+        # The count, then index - 1 lengths to skip, then the last length.
+        if position == HIGHEST:
+            return BYTE_AT_THE_TOP
+        length = byte_at(request.image, position)
+        position += 1
+        if left == index or left == 0:
+            continue
+        if position + length > HIGHEST:
+            return SKIP_PASSES
+        position += length
+        if position >= end:
+            return None
+    return None
+
+
+def string_index(request):
+    if request.kind == "string":
+        return request.index
+    general = search(request.image, 30)
+    if not isinstance(general, tuple):
+        return None
+    return byte_at(request.image, general[0] + INDEX_AT[request.kind])
