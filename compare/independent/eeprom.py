@@ -1,5 +1,6 @@
 """The EEPROM range: a record of a position and an end beside the image."""
 
+from . import amended
 from .refusal import (
     ADDRESS, BAD_ARGUMENT, NOT_WRITABLE, OVERRUN, Refusal, refuse_unless,
 )
@@ -77,9 +78,13 @@ def skip_ahead_bytes(at, skip):
 
 
 def read_byte(image, at):
-    """"isn't stopped by the end. At position 65,535 it refuses (1)." """
+    """"refuses with 2 at or past the end, position unchanged; this is tested
+    before refusal 1", which is that of position 65,535."""
     check_image(image)
     check_end(at)
+    if amended.in_force("E4"):
+        # Before it the byte read "isn't stopped by the end".
+        refuse_unless(at.pos < at.end, OVERRUN)
     refuse_unless(at.pos < HIGHEST, ADDRESS)
     byte = stored(image, at.pos, 1)[0]
     at.pos += 1

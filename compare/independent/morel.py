@@ -10,7 +10,7 @@ or words that can't be used.
 import os
 import re
 
-from . import category, eeprom, frames, setup, sii, spread, strings
+from . import amended, category, eeprom, frames, setup, sii, spread, strings
 from .refusal import ABSENT, BAD_ARGUMENT, Refusal, refuse_unless
 
 COLUMN = 28
@@ -235,12 +235,14 @@ def category_cut(image, number):
 
 
 def names_cut(image):
-    """Whether General or the strings are cut, or a string is sought in a
-    category that has none, past the image's end: there its count and its
-    length are read behind the category."""
+    """Whether General or the strings are cut."""
     if (category_cut(image, category.GENERAL)
             or category_cut(image, category.STRINGS)):
         return True
+    if amended.in_force("E4"):
+        return False
+    # Before it the count and the length of a string in an empty category were
+    # read behind that, and so perhaps past the image's end.
     try:
         at = category.category(image, category.STRINGS)
     except Refusal:

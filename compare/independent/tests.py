@@ -193,16 +193,22 @@ class Range(Case):
     def test_skip_adds_in_full(self):
         self.says("skip 65535 65534 65535", "refuses 2 @ 65535 65534")
 
-    def test_byte_is_not_stopped_by_the_end(self):
-        self.says("byte 0a0b0c 4 2 2", "gives 12 @ 3 2")
-        self.says("byte 0a0b0c 4 3 2", "gives 255 @ 4 2")
-        self.says("byte 0a0b0c 4 65534 2", "gives 255 @ 65535 2")
-        self.says("byte 0a0b0c 4 65535 2", "refuses 1 @ 65535 2")
+    def test_byte_stops_at_the_end(self):
+        self.says("byte 0a0b0c 4 0 2", "gives 10 @ 1 2")
+        self.says("byte 0a0b0c 4 1 2", "gives 11 @ 2 2")
+        self.says("byte 0a0b0c 4 2 2", "refuses 2 @ 2 2")
+        self.says("byte 0a0b0c 4 3 2", "refuses 2 @ 3 2")
+        self.says("byte 0a0b0c 4 0 0", "refuses 2 @ 0 0")
+        # The end decides, not the image's.
+        self.says("byte 0a0b0c 4 3 4", "gives 255 @ 4 4")
 
     def test_byte_near_the_top_of_a_full_image(self):
         full = "07" * 65_536
-        self.says(f"byte {full} 8 65534 0", "gives 7 @ 65535 0")
-        self.says(f"byte {full} 8 65535 0", "refuses 1 @ 65535 0")
+        self.says(f"byte {full} 8 65533 65534", "gives 7 @ 65534 65534")
+        self.says(f"byte {full} 8 65534 65534", "refuses 2 @ 65534 65534")
+        # 2 is tested before 1, so 1 is not met.
+        self.says(f"byte {full} 8 65535 65534", "refuses 2 @ 65535 65534")
+        self.says(f"byte {full} 8 65535 0", "refuses 2 @ 65535 0")
 
     def test_read(self):
         self.says("read 0a0b0c0d 4 1 4 eeee", "gives 2 @ 3 4 | 0b0c")
@@ -840,26 +846,37 @@ class Strings(Case):
         self.says(f"string {image((10, less))} 4 254 eeee", "gives 1 | 41ee")
         self.says(f"string {image((10, less))} 4 255 eeee", "absent | eeee")
 
-    def test_count_and_length_are_read_past_the_end(self):
-        # An empty strings category: the bytes after it are looked at. They
-        # are the next header: type 1, so count 1 and length 0.
-        self.says(f"string {image((10, b''), (1, b''))} 4 1 eeee",
-                  "gives 0 | eeee")
-        # Type 0x0201: length 2, and nothing may be read.
-        self.says(f"string {image((10, b''), (0x0201, b''))} 4 1 eeee",
-                  "refuses 2 | eeee")
+    def test_empty_category(self):
+        # It has no count. The bytes after it are not looked at: the next
+        # header, of type 1, is no count 1 and length 0.
+        for after in (1, 0x0201, 0):
+            empty = image((10, b""), (after, b""))
+            for index in (1, 2, 255):
+                self.says(f"string {empty} 4 {index} eeee", "refuses 2 | eeee")
+            self.says(f"string {empty} 4 0 eeee", "absent | eeee")
+        # The room's bound comes first.
+        self.says(f"string {empty} 4 1 {'ee' * 256}",
+                  "refuses 14 | " + "ee" * 256)
 
-    def test_length_at_the_top(self):
-        # Strings at bytes 65,534 to 65,534: the count is read there, the
-        # length would be at 65,535.
-        start = bytes(128).hex()
-        jump = header(1, 32767 - 0x42 - 2).hex()
-        gap = "00" * (65_530 - 132)
-        full = start + jump + gap + header(10, 0).hex() + "0500"
-        self.assertEqual(len(full), 2 * 65_536)
-        self.says(f"category {full} 4 10", "gives 65534 65534")
-        self.says(f"string {full} 4 1 ee", "refuses 1 | ee")
-        self.says(f"string {full} 4 7 ee", "absent | ee")
+    def test_name_in_an_empty_category(self):
+        both = image((10, b""), (30, GENERAL))
+        self.says(f"name {both} 4 eeee", "refuses 2 | eeee")
+        self.says(f"desc {both} 4 eeee", "refuses 2 | eeee")
+        # Indices 0 are absent before the strings are sought.
+        none = image((10, b""), (30, bytes(18)))
+        self.says(f"name {none} 4 eeee", "absent | eeee")
+        self.says(f"desc {none} 4 eeee", "absent | eeee")
+
+    # Strings at bytes 65,534 to 65,534, the last two of the image.
+    AT_THE_TOP = (bytes(128) + header(1, 32767 - 0x42 - 2)
+                  + bytes(65_530 - 132) + header(10, 0) + b"\5\0").hex()
+
+    def test_empty_category_at_the_top(self):
+        self.assertEqual(len(self.AT_THE_TOP), 2 * 65_536)
+        self.says(f"category {self.AT_THE_TOP} 4 10", "gives 65534 65534")
+        for index in (1, 7):
+            self.says(f"string {self.AT_THE_TOP} 4 {index} ee",
+                      "refuses 2 | ee")
 
     def test_characters(self):
         body = bytes.fromhex("01 06 00 7f 80 ff 00 01".replace(" ", ""))
@@ -1359,6 +1376,42 @@ class Amended(Case):
             some = image((10, body), (30, GENERAL))
             self.before("E1", f"{word} {some} 4 eeee", f"gives 1 | {text}ee",
                         "absent | eeee")
+
+    def test_byte_past_the_end(self):
+        # It went by its position alone, and was refused at 65,535.
+        for pos, then in ((1, "gives 11 @ 2 2"), (2, "gives 12 @ 3 2"),
+                          (3, "gives 255 @ 4 2"),
+                          (65534, "gives 255 @ 65535 2"),
+                          (65535, "refuses 1 @ 65535 2")):
+            now = then if pos < 2 else f"refuses 2 @ {pos} 2"
+            self.before("E4", f"byte 0a0b0c 4 {pos} 2", then, now)
+        for line in ("byte 0a 4 65535 3", f"byte {'00' * 65_537} 4 2 2"):
+            same = "refuses 14 @ " + " ".join(line.split(" ")[3:])
+            self.before("E4", line, same, same)
+
+    def test_string_in_an_empty_category(self):
+        # The next header was looked at: type 1, so count 1 and length 0.
+        line = "string {} 4 {} eeee"
+        for after, index, then in (
+                (1, 1, "gives 0 | eeee"), (1, 2, "absent | eeee"),
+                # Type 0x0201: length 2, and nothing may be read.
+                (0x0201, 1, "refuses 2 | eeee"),
+                (0x0301, 1, "refuses 4 2 3 | eeee")):
+            empty = image((10, b""), (after, b""))
+            self.before("E4", line.format(empty, index), then,
+                        "refuses 2 | eeee")
+        # The count stood at 65,534, and the length would at 65,535.
+        line = "string " + Strings.AT_THE_TOP + " 4 {} ee"
+        self.before("E4", line.format(1), "refuses 1 | ee", "refuses 2 | ee")
+        self.before("E4", line.format(7), "absent | ee", "refuses 2 | ee")
+
+    def test_before_both(self):
+        # Count 0 behind an empty category, and a length of 0.
+        line = f"string {image((10, b''), (0, b''))} 4 1 eeee"
+        self.before("E1", line, *["refuses 2 | eeee"] * 2)
+        self.before("E4", line, "absent | eeee", "refuses 2 | eeee")
+        with amended.before("E1", "E4"):
+            self.says(line, "gives 0 | eeee")
 
     def test_names(self):
         for name in ("E3", "E99", "", "e1"):

@@ -5,8 +5,8 @@ image in it, at no answer. A line outside it must be answered as before; a
 line in it may be answered as before too.
 """
 
-from .cases import strings
-from .looked import string_count, string_index
+from .cases import ranges, strings
+from .looked import empty_strings, string_count, string_index
 
 CLASSES = {}
 
@@ -33,3 +33,12 @@ def _one_past_the_count(request):
     exactly the count and 1."""
     count = string_count(request)
     return count is not None and string_index(request) == count + 1
+
+
+@may_change("E4", ranges, strings)
+def _byte_at_or_past_the_end(request):
+    """A byte read there; and of the calls above it only a string that is
+    sought in a category of length 0."""
+    if request.kind == "byte":
+        return request.pos >= request.end
+    return empty_strings(request)

@@ -8,9 +8,9 @@ that its entry names and for the answers that the entry gives, no others.
 from types import SimpleNamespace
 
 from .looked import (
-    BYTE_AT_THE_TOP, END_ABOVE, HIGHEST, IMAGE_LIMIT, MOVE_PASSES, SKIP_PASSES,
-    active_times, rises_before, searches, string_count, string_index,
-    string_search, word_at,
+    END_ABOVE, HIGHEST, IMAGE_LIMIT, MOVE_PASSES, active_times,
+    empty_strings, rises_before, searches, skip_passes, string_count,
+    string_index, word_at,
 )
 from .request import refused, shown, unchanged
 
@@ -65,17 +65,8 @@ def _skip_sum(request, oracle, ours):
     if request.kind == "skip":
         passes = request.end % 2 == 0 and request.pos + request.skip > HIGHEST
     else:
-        passes = string_search(request) == SKIP_PASSES
+        passes = skip_passes(request)
     return passes and panics_where_we_refuse(request, oracle, ours, 2)
-
-
-@rule("D3")
-def _byte_at_the_top(request, oracle, ours):
-    if request.kind == "byte":
-        top = request.end % 2 == 0 and request.pos == HIGHEST
-    else:
-        top = string_search(request) == BYTE_AT_THE_TOP
-    return top and panics_where_we_refuse(request, oracle, ours, 1)
 
 
 @rule("D4")
@@ -244,6 +235,11 @@ def silent(request):
     if kind in ("frame", "spread", "pdi", "bootmail", "version", "checksum",
                 "clocks", "inside", "physport", "physaddr"):
         return True
+    if kind == "byte" and request.pos >= request.end:
+        # D20: the Rust reads on, and is not asked.
+        return True
+    if kind in ("string", "name", "desc"):
+        return empty_strings(request)
     if kind in ("skip", "byte", "read", "exact", "write"):
         return request.end % 2 == 1
     if kind == "category":

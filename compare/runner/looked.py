@@ -69,15 +69,12 @@ def search(image, number):
             return MOVE_PASSES
 
 
-SKIP_PASSES = "a skip passes 65,535"
-BYTE_AT_THE_TOP = "a byte is read at 65,535"
 INDEX_AT = {"name": 2, "desc": 3}
 
 
 def strings_at(request):
     """(position, end) of the strings that this request looks into, or None."""
-    if (request.kind not in ("string", "name", "desc")
-            or len(request.image) > IMAGE_LIMIT):
+    if request.kind not in ("string", "name", "desc"):
         return None
     found = search(request.image, 10)
     if string_index(request) in (None, 0) or not isinstance(found, tuple):
@@ -91,27 +88,26 @@ def string_count(request):
     return byte_at(request.image, found[0]) if found else None
 
 
-def string_search(request):
-    """Where a string search meets the top of the addresses first, or None."""
+def empty_strings(request):
+    """Whether those strings are a category of length 0."""
+    found = strings_at(request)
+    return found is not None and found[0] == found[1]
+
+
+def skip_passes(request):
+    """Whether a skip of that search passes 65,535."""
     found = strings_at(request)
     if found is None:
-        return None
-    index = string_index(request)
-    position, end = found
-    for left in range(index, -1, -1):
-        # The count, then index - 1 lengths to skip, then the last length.
-        if position == HIGHEST:
-            return BYTE_AT_THE_TOP
-        length = byte_at(request.image, position)
-        position += 1
-        if left == index or left == 0:
-            continue
-        if position + length > HIGHEST:
-            return SKIP_PASSES
-        position += length
+        return False
+    # The count, then index - 1 lengths to skip.
+    position, end = found[0] + 1, found[1]
+    for _ in range(string_index(request) - 1):
+        position += 1 + byte_at(request.image, position)
+        if position > HIGHEST:
+            return True
         if position >= end:
-            return None
-    return None
+            return False
+    return False
 
 
 def string_index(request):

@@ -32,6 +32,11 @@ impl Record {
         let Record(pos, end) = self;
         if end % 2 == 0 { Ok(range_at(image, pos, end)) } else { Err(Off::None) }
     }
+
+    /// Whether a byte is left to read. Past the end the original reads on, and since request E4 it is not asked there.
+    fn is_inside(&self) -> Result<(), Off> {
+        if self.0 < self.1 { Ok(()) } else { Err(Off::None) }
+    }
 }
 
 fn afterwards(range: &EepromRange<Image>) -> String {
@@ -64,6 +69,7 @@ pub fn skip(mut words: Words) -> Reply {
 pub fn byte(mut words: Words) -> Reply {
     let (image, at) = (image(&mut words)?, Record::read(&mut words)?);
     words.end()?;
+    at.is_inside()?;
     let mut range = at.over(image)?;
     let answer = ask_async(|| range.read_byte())?;
     Ok(said(answer, |byte| vec![byte.into()]) + &afterwards(&range))

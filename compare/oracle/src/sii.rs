@@ -4,6 +4,7 @@ use crate::answer::{Off, Reply, ask, ask_async, gives, refuses, said, slice};
 use crate::eeprom::device_provider::{Image, pos_end};
 use crate::eeprom::types::CategoryType;
 use crate::eeprom::{EepromRange, STATION_ALIAS_CRC};
+use crate::error::Error;
 use crate::range::image;
 use crate::subdevice::eeprom::{CategoryIterator, SubDeviceEeprom};
 use lines::Words;
@@ -31,12 +32,15 @@ fn category_type(number: u16) -> Result<CategoryType, Off> {
 }
 
 /// The search itself is private, so it is asked through `items`, which makes a list over the range found, or over the range 0, 0. No category starts there.
+pub fn found(sii: &Sii, sought: CategoryType) -> Result<Result<EepromRange<Image>, Error>, Off> {
+    Ok(ask_async(|| sii.items::<u8>(sought))?.map(range_of))
+}
+
 pub fn category(mut words: Words) -> Reply {
     let (image, number) = (image(&mut words)?, words.u16()?);
     words.end()?;
     let (sii, sought) = (Sii::new(image), category_type(number)?);
-    let answer = ask_async(|| sii.items::<u8>(sought))?;
-    Ok(match answer.map(range_of) {
+    Ok(match found(&sii, sought)? {
         Ok(range) if pos_end(&range) == [0, 0] => "absent".into(),
         Ok(range) => gives(&pos_end(&range)),
         Err(error) => refuses(error),

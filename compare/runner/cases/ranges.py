@@ -43,7 +43,7 @@ def skips():
 def single_bytes():
     for length in range(6):
         for pos in range(7):
-            for end in (0, 1, 2, 4):
+            for end in (0, 1, 2, 4, 6, 8):
                 for chunk in CHUNKS:
                     yield line("byte", ramp(length), chunk, pos, end)
     for pos in TOP:

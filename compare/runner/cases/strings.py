@@ -19,6 +19,7 @@ def small():
     yield from all_short()
     yield from rooms()
     yield from names()
+    yield from empty()
 
 
 def all_short():
@@ -52,6 +53,22 @@ def names():
             for kind in ("name", "desc"):
                 for room in (0, 1, 4, 256):
                     yield line(kind, data, 4, b"\xa5" * room)
+
+
+def empty():
+    """Strings without a byte, and what stands behind them: a count that would
+    have the index, or not, and a length."""
+    for count, length in product((0, 1, 2, 255), (0, 1, 2, 255)):
+        behind = category(count + 256 * length, b"A")
+        for index in (0, 1, 2, 3):
+            record = bytearray(18)
+            record[2:4] = index, 3 - index
+            made = image(category(30, record), category(10, b""), behind)
+            # The image may end where the strings do.
+            for data in (made, made[:-len(behind) - 2]):
+                yield line("string", data, 4, index, b"\xa5\xa5")
+                yield line("name", data, 8, b"\xa5\xa5")
+                yield line("desc", data, 4, b"\xa5\xa5")
 
 
 def some(rng):

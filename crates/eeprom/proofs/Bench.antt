@@ -5,7 +5,7 @@ use Prim.Native.Nat.{ℕ}
 use Rattle.refusal.specs.Said.{gives, refuses}
 use Rattle.wire.specs.Bytes.{byteAt, span, filled, overlay}
 use Rattle.eeprom.specs.Image.{within, fine}
-use Rattle.eeprom.specs.Range.{newSaid, startSaid, skipIn, skipSaid, readBuf, exactSaid, exactPos, padded, wordsAsked, wordsIn, wordsWritten, writeIn, writeSaid, writePos, wordsLaid, writeImage}
+use Rattle.eeprom.specs.Range.{newSaid, startSaid, skipIn, skipSaid, byteIn, byteSaid, readBuf, exactSaid, exactPos, padded, wordsAsked, wordsIn, wordsWritten, writeIn, writeSaid, writePos, wordsLaid, writeImage}
 
 abbrev pub eight : List ℕ
 eight = 10 ∷ 11 ∷ 12 ∷ 13 ∷ 14 ∷ 15 ∷ 16 ∷ 17 ∷ []
@@ -19,6 +19,11 @@ pub record Cases : Type 0 where
   pub on-the-end : skipSaid 4 4 0 ≡ refuses 2 []
   pub skip-in-full : skipSaid 65535 65534 65535 ≡ refuses 2 []
   pub odd-end : skipSaid 0 5 1 ≡ refuses 14 []
+  -- a byte is read before the end, not at it, and not past it
+  pub last-byte : byteSaid eight 3 4 ≡ gives (13 ∷ 4 ∷ 4 ∷ [])
+  pub byte-on-the-end : byteSaid eight 4 4 ≡ refuses 2 []
+  pub byte-past-the-end : byteSaid eight 65535 65534 ≡ refuses 2 []
+  pub byte-odd-end : byteSaid eight 5 5 ≡ refuses 14 []
   -- an exact read that does not fit fills what there is
   pub short-said : exactSaid eight 5 8 4 ≡ refuses 2 []
   pub short-stands : exactPos eight 5 8 4 ≡ 8
@@ -53,7 +58,7 @@ pub record Cases : Type 0 where
   pub highest-stands : writePos eight 65535 65534 (1 ∷ []) ≡ 65535
 
 pub cases : Cases
-unfolding newSaid startSaid skipSaid skipIn exactSaid exactPos fine within readBuf filled span byteAt writeSaid writeIn writePos wordsWritten wordsAsked wordsIn wordsLaid padded writeImage overlay
+unfolding newSaid startSaid skipSaid skipIn byteSaid byteIn exactSaid exactPos fine within readBuf filled span byteAt writeSaid writeIn writePos wordsWritten wordsAsked wordsIn wordsLaid padded writeImage overlay
 cases =
     record {
       highest = refl;
@@ -62,6 +67,10 @@ cases =
       on-the-end = refl;
       skip-in-full = refl;
       odd-end = refl;
+      last-byte = refl;
+      byte-on-the-end = refl;
+      byte-past-the-end = refl;
+      byte-odd-end = refl;
       short-said = refl;
       short-stands = refl;
       short-buf = refl;

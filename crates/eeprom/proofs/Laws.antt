@@ -1,8 +1,7 @@
 -- Laws of a range's rules, for callers to cite in place of the definitions: what each call says inside its bounds, and outside.
--- The law of a byte read is stated for positions before the end.
 use Prim.Native.Nat.{ℕ, _+_, _-_, _*_, _%_, _≤_, _<_, min, max}
 use native.Mathlib.Omega.{arith}
-use mathlib.Core.Path.{_≡_, refl}
+use mathlib.Core.Path.{_≡_, refl, sym}
 use mathlib.Core.List.{List, [], _∷_, append-nil}
 use mathlib.Core.Bool.{Bool, true, false, _&&_}
 use lib.Dec.{leb, ltb, eqb}
@@ -79,12 +78,55 @@ pub byte-gives : (image : List ℕ) (pos end : ℕ) → fine image end ≡ true 
 unfolding byteSaid byteIn
 byte-gives image pos end f h m =
     let k : pos < endMost = omega arith in
-    rw (f, lt-ltb pos endMost k)
+    rw (f, lt-ltb pos end h, lt-ltb pos endMost k)
+
+-- at the end and past it
+pub byte-refuses : (image : List ℕ) (pos end : ℕ) → fine image end ≡ true → end ≤ pos → byteSaid image pos end ≡ refuses 2 []
+unfolding byteSaid byteIn
+byte-refuses image pos end f h = rw (f, le-ltb pos end h)
 
 -- a call outside the bounds
 pub byte-bad : (image : List ℕ) (pos end : ℕ) → fine image end ≡ false → byteSaid image pos end ≡ refuses 14 []
 unfolding byteSaid
 byte-bad image pos end f = rw f
+
+-- a byte that is given lies before the end, which is kept
+pub byte-given : (image : List ℕ) (pos end : ℕ) (l : List ℕ) → byteSaid image pos end ≡ gives l
+    → (fine image end ≡ true) × ((pos < end) × (l ≡ byteAt image pos ∷ (pos + 1) ∷ end ∷ []))
+unfolding byteSaid byteIn
+byte-given image pos end l = go (fine image end) (ltb pos end) (ltb pos endMost) refl refl
+  where
+    go : (f b m : Bool) → fine image end ≡ f → ltb pos end ≡ b
+        → pick f (pick b (pick m (gives (byteAt image pos ∷ (pos + 1) ∷ end ∷ [])) (refuses 1 [])) (refuses 2 [])) (refuses 14 []) ≡ gives l
+        → (fine image end ≡ true) × ((pos < end) × (l ≡ byteAt image pos ∷ (pos + 1) ∷ end ∷ []))
+    go true true true f b p = (f, (ltb-true pos end b, cc))
+    go true true false f b p = let z : _≡_ {A = ℕ} 0 1 = cc in absurd (omega arith)
+    go true false m f b p = let z : _≡_ {A = ℕ} 0 1 = cc in absurd (omega arith)
+    go false b m f e p = let z : _≡_ {A = ℕ} 0 1 = cc in absurd (omega arith)
+
+-- .. so the range behind it is within the bounds of a call
+pub byte-fine : (image : List ℕ) (pos end b p e : ℕ) → gives (b ∷ p ∷ e ∷ []) ≡ byteSaid image pos end → fine image e ≡ true
+byte-fine image pos end b p e h =
+    let g = byte-given image pos end (b ∷ p ∷ e ∷ []) (sym h) in
+    let l = g .1 .1 in
+    let z : e ≡ end = cc in
+    rw z (g .0)
+
+-- it is never refused with 1: a position before an end lies below the largest
+pub byte-never-1 : (image : List ℕ) (pos end : ℕ) (l : List ℕ) → end ≤ endMost → byteSaid image pos end ≡ refuses 1 l → ⊥
+unfolding byteSaid byteIn
+byte-never-1 image pos end l m = go (fine image end) (ltb pos end) (ltb pos endMost) refl refl
+  where
+    go : (f b k : Bool) → ltb pos end ≡ b → ltb pos endMost ≡ k
+        → pick f (pick b (pick k (gives (byteAt image pos ∷ (pos + 1) ∷ end ∷ [])) (refuses 1 [])) (refuses 2 [])) (refuses 14 []) ≡ refuses 1 l
+        → ⊥
+    go true true true b k p = let z : _≡_ {A = ℕ} 0 1 = cc in absurd (omega arith)
+    go true true false b k p =
+        let h = ltb-true pos end b in
+        let n = ltb-false pos endMost k in
+        absurd (omega arith)
+    go true false k b e p = let z : _≡_ {A = ℕ} 2 1 = cc in absurd (omega arith)
+    go false b k e f p = let z : _≡_ {A = ℕ} 14 1 = cc in absurd (omega arith)
 
 -- ---- reading into a lent buffer
 

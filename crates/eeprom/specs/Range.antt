@@ -35,9 +35,10 @@ skipSaid pos end skip = pick (eqb (end % 2) 0) (skipIn pos end skip) (refuses 14
 
 -- ---- reading a byte
 
--- the byte at the position, which the end does not stop
+-- the byte at the position, which must lie before the end, and below the largest position
 unfoldable pub byteIn : List ℕ → ℕ → ℕ → Said
-byteIn image pos end = pick (ltb pos endMost) (gives (byteAt image pos ∷ (pos + 1) ∷ end ∷ [])) (refuses 1 [])
+byteIn image pos end =
+    pick (ltb pos end) (pick (ltb pos endMost) (gives (byteAt image pos ∷ (pos + 1) ∷ end ∷ [])) (refuses 1 [])) (refuses 2 [])
 
 -- what a byte read says
 unfoldable pub byteSaid : List ℕ → ℕ → ℕ → Said

@@ -201,7 +201,7 @@ impl Range {
         }
     }
 
-    // The byte at the position, and the range after it.
+    // The byte at the position, and the range after it. Refuses 14, then 2 at the end and past it, then 1, which is never met.
     pub fn read_byte(self, image: &[u8], chunk: Chunk) -> ByteAnswer
         ensures { λ r. ⌜ saidByte r ≡ byteSaid (now (image .entry)) (self .«byte_pos») (self .end) ⌝ }
     {
@@ -285,10 +285,13 @@ fn sound(image: &[u8], end: Pos) -> bool
     }
 }
 
-// The byte at a position, which the end does not stop.
+// The byte at a position, which must lie before the end (2), and below the largest position (1). No end lies above that, so 1 is never met (`byte-never-1`).
 fn byte_in(image: &[u8], chunk: Chunk, pos: Pos, end: Pos) -> ByteAnswer
     ensures { λ r. ⌜ saidByte r ≡ byteIn (now (image .entry)) pos end ⌝ }
 {
+    if pos >= end {
+        return ByteAnswer::No(Refusal::Overrun);
+    }
     if (pos as u32) < END_MOST {
         let next = pos + 1;
         ByteAnswer::Byte(

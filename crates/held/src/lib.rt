@@ -104,7 +104,7 @@ impl<'a> EepromRange<'a> {
         s.answer
     }
 
-    // The byte at the position, which the end does not stop. Refuses 14, then 1.
+    // The byte at the position. Refuses 14, then 2 at the end and past it, then 1, which is never met.
     pub fn read_byte(&mut self, chunk: Chunk) -> ByteRead
         ensures { λ d. ⌜ (saidByteRead d ≡ alone (byteOf (now (self .entry)))) × (now (self .exit) ≡ after (now (self .entry)) (byteOf (now (self .entry)))) ⌝ }
     {
@@ -161,7 +161,7 @@ impl<'a> EepromRangeMut<'a> {
     }
 }
 
-// The byte at a position of the image, and the position after it: a range made here, lent to `read_byte`, and looked at again. Refuses 14, then 1.
+// The byte at a position of the image, and the position after it: a range made here, lent to `read_byte`, and looked at again. Refuses 14, then 2, then 1.
 pub fn byte_in(image: &[u8], byte_pos: Pos, end: Pos, chunk: Chunk) -> ByteStep
     ensures { λ r. ⌜ (saidByteRead (r .answer) ≡ alone (byteSaid (now (image .entry)) «byte_pos» end)) × (r .«byte_pos» ≡ stands «byte_pos» (byteSaid (now (image .entry)) «byte_pos» end)) ⌝ }
 {

@@ -1,6 +1,5 @@
 // The strings of an image: the device's name and description, and all strings of the category.
 use crate::cut::category_cut;
-use crate::cut::ends_before;
 use crate::status::worse;
 use crate::text::end;
 use crate::text::front;
@@ -15,7 +14,6 @@ use crate::text::say;
 use category::Found;
 use eeprom::Chunk;
 use eeprom::Range;
-use std::num::wrapping_add_usize;
 use strings::StringAnswer;
 
 // Which string is asked for.
@@ -88,37 +86,14 @@ fn category(image: &[u8], cut: bool) -> u8 {
     }
 }
 
-// Whether a string that is sought in an empty category is sought past the image's end: a count and a length are read after the category.
-fn sought_after(image: &[u8]) -> bool {
-    match category::category(image, Chunk::Eight, category::STRINGS) {
-        Found::At(g) => after(image, g),
-        Found::Absent => false,
-        Found::No(_) => false,
-    }
-}
-
-fn after(image: &[u8], g: Range) -> bool {
-    if g.byte_pos == g.end {
-        ends_before(image, wrapping_add_usize(g.end as usize, 2))
-    } else {
-        false
-    }
-}
-
 // Name and description rest on General too.
-fn named_cut(image: &[u8], general_cut: bool, cut: bool) -> bool {
-    if general_cut {
-        true
-    } else if cut {
-        true
-    } else {
-        sought_after(image)
-    }
+fn named_cut(general_cut: bool, cut: bool) -> bool {
+    if general_cut { true } else { cut }
 }
 
 pub(crate) fn print(image: &[u8], general_cut: bool) -> u8 {
     let cut = category_cut(image, category::STRINGS);
-    let named = named_cut(image, general_cut, cut);
+    let named = named_cut(general_cut, cut);
     let name = string(image, named, NAME, 0, b"device name");
     let description = string(image, named, DESCRIPTION, 0, b"device description");
     let strings = category(image, cut);

@@ -16,20 +16,27 @@ use Rattle.strings.specs.Names.{onGeneral, stringBy, nameSaid, descripti
 unfoldable pub twoStrings : List ℕ
 twoStrings = replicate 128 0 ++ (10 ∷ 0 ∷ 4 ∷ 0 ∷ 2 ∷ 3 ∷ 65 ∷ 0 ∷ 181 ∷ 1 ∷ 66 ∷ 0 ∷ [])
 
+-- one of no words, and bytes behind it that would read as a count and a length
+unfoldable pub noStrings : List ℕ
+noStrings = replicate 128 0 ++ (10 ∷ 0 ∷ 0 ∷ 0 ∷ 1 ∷ 0 ∷ 0 ∷ 0 ∷ [])
+
 pub record Cases : Type 0 where
   -- the stored length is counted before zeros are dropped
   pub long : stringSaid twoStrings 1 2 ≡ refuses 4 (2 ∷ 3 ∷ [])
   pub zero : stringSaid twoStrings 0 3 ≡ absent
   -- a room of over 255 is refused before index 0 is absent
   pub wide : stringSaid twoStrings 0 256 ≡ refuses 14 []
+  -- in an empty category index 1 is refused, and index 0 absent as ever
+  pub empty : stringSaid noStrings 1 3 ≡ refuses 2 []
+  pub empty-zero : stringSaid noStrings 0 3 ≡ absent
   -- the room's bytes after the result stay
   pub kept : roomAfter (stringSaid twoStrings 1 3) (7 ∷ 8 ∷ 9 ∷ []) ≡ 65 ∷ 63 ∷ 9 ∷ []
 
 pub cases : Cases
 unfolding
-    twoStrings on2 on3 byteAt span overlay within fine newSaid byteIn byteSaid skipIn skipSaid exactSaid among counted decided stepped searchOver searchFrom searched categorySaid
+    twoStrings noStrings on2 on3 byteAt span overlay within fine newSaid byteIn byteSaid skipIn skipSaid exactSaid among counted decided stepped searchOver searchFrom searched categorySaid
     stringPast passedOne passed onExact fitted stringHere stringBehind stringIn soughtAt ascii shown textSaid fits bounded textFor stringSaid lengthSaid roomAfter
-cases = record { long = refl; zero = refl; wide = refl; kept = refl }
+cases = record { long = refl; zero = refl; wide = refl; empty = refl; empty-zero = refl; kept = refl }
 
 -- General of so many words, with order index 1, name index 2 and these flags, then the strings
 unfoldable pub named : ℕ → ℕ → List ℕ

@@ -14,8 +14,8 @@ use Rattle.refusal.proofs.Tests.{both}
 use Rattle.wire.specs.Bytes.{byteAt, span, overlay}
 use Rattle.wire.proofs.Laws.{span-add, length-overlay, overlay-next, overlay-none}
 use Rattle.wire.proofs.Stretch.{overlay-one}
-use Rattle.eeprom.specs.Image.{endMost, within, fine}
-use Rattle.eeprom.specs.Range.{byteIn, byteSaid, exactSaid}
+use Rattle.eeprom.specs.Image.{within, fine}
+use Rattle.eeprom.specs.Range.{byteSaid, exactSaid}
 use Rattle.eeprom.proofs.Laws.{exact-gives, exact-none, exact-refuses}
 use Rattle.category.specs.Numbers.{strings}
 use Rattle.category.specs.Category.{categorySaid}
@@ -85,17 +85,6 @@ fitted-given image k n pos end l f p = go (ltb k n) (leb n (end - pos)) refl ref
         let q = fitted-cut image k n pos end f (ltb-false k n a) (leb-false n (end - pos) b) ∙ p in
         let z : _≡_ {A = ℕ} 0 1 = cc in
         absurd (omega arith)
-
--- a byte that is read leaves a range within the bounds of a call: of the rule of a byte read, that it keeps the end
-pub byte-fine : (image : List ℕ) (pos end b p e : ℕ) → gives (b ∷ p ∷ e ∷ []) ≡ byteSaid image pos end → fine image e ≡ true
-unfolding byteSaid byteIn
-byte-fine image pos end b p e h = go (fine image end) (ltb pos endMost) refl h
-  where
-    go : (t u : Bool) → fine image end ≡ t →
-        gives (b ∷ p ∷ e ∷ []) ≡ pick t (pick u (gives (byteAt image pos ∷ (pos + 1) ∷ end ∷ [])) (refuses 1 [])) (refuses 14 []) → fine image e ≡ true
-    go true true f h = let z : e ≡ end = cc in rw z f
-    go true false f h = let z : _≡_ {A = ℕ} 0 1 = cc in absurd (omega arith)
-    go false u f h = let z : _≡_ {A = ℕ} 0 1 = cc in absurd (omega arith)
 
 -- ---- passing over strings
 

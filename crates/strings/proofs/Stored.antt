@@ -16,7 +16,7 @@ use Rattle.wire.proofs.Laws.{length-span, span-add}
 use Rattle.wire.proofs.Stretch.{byte-span}
 use Rattle.eeprom.specs.Image.{within, fine}
 use Rattle.eeprom.specs.Range.{byteSaid, skipSaid}
-use Rattle.eeprom.proofs.Laws.{fine-is, byte-gives, skip-gives, skip-refuses}
+use Rattle.eeprom.proofs.Laws.{fine-is, byte-gives, byte-refuses, skip-gives, skip-refuses}
 use Rattle.category.specs.Numbers.{strings}
 use Rattle.category.specs.Category.{categorySaid}
 use Rattle.category.proofs.First.{Readable, category-readable, found-first}
@@ -123,6 +123,11 @@ module _ (image : List ℕ) (end : ℕ) (r : Readable image end) where
       stringIn image s k pos end ≡ pick (stringPast s (byteAt image pos)) absent (stringBehind image s k (pos + 1) end)
   unfolding stringIn on3
   in-category s k pos h = rw (byte-there pos h)
+
+  -- an empty category has no count
+  in-empty : (s k pos : ℕ) → end ≤ pos → stringIn image s k pos end ≡ refuses 2 []
+  unfolding stringIn on3
+  in-empty s k pos h = rw (byte-refuses image pos end all-fine h)
 
 -- ---- what is stored is given
 
@@ -275,6 +280,17 @@ module _ (image : List ℕ) (end k : ℕ) (r : Readable image end) where
       go true q c = let z : _≡_ {A = ℕ} 0 1 = cc in absurd (omega arith)
       go false q c = (not-past s (byteAt image pos) q, row-behind s (pos + 1) l h c)
 
+  -- .. and the category is not empty
+  in-filled : (s pos : ℕ) (l : List ℕ) → stringIn image s k pos end ≡ gives l → pos < end
+  in-filled s pos l p = go (ltb pos end) refl
+    where
+      go : (t : Bool) → ltb pos end ≡ t → pos < end
+      go true q = ltb-true pos end q
+      go false q =
+          let c = sym (in-empty image end r s k pos (ltb-false pos end q)) ∙ p in
+          let z : _≡_ {A = ℕ} 0 1 = cc in
+          absurd (omega arith)
+
 -- a text that is given is what is shown of the bytes at a place
 text-place : (image : List ℕ) (k : ℕ) (said : Said) (text : List ℕ) → textFor image k said ≡ gives text → (l : List ℕ) × (said ≡ gives l) × (text ≡ shown (span image (getD l 0 0) (getD l 1 0)))
 unfolding textFor bounded textSaid on2
@@ -287,16 +303,16 @@ text-place image k said text p = go (fits image k) said p
     go true (refuses n v) p = let z : _≡_ {A = ℕ} 0 1 = cc in absurd (omega arith)
     go false s p = let z : _≡_ {A = ℕ} 0 1 = cc in absurd (omega arith)
 
--- in a category that is not empty
-module _ (image : List ℕ) (pos end : ℕ) (c : categorySaid image strings ≡ gives (pos ∷ end ∷ [])) (filled : pos < end) where
+module _ (image : List ℕ) (pos end : ℕ) (c : categorySaid image strings ≡ gives (pos ∷ end ∷ [])) where
   pub given-stored : (i k : ℕ) (text : List ℕ) → stringSaid image (i + 1) k ≡ gives text → TextOf image pos end i k text
   unfolding stringSaid
   given-stored i k text p =
       let r = category-readable image strings pos end c in
       let f = found-first image strings pos end c in
       let t = text-place image k (soughtAt image (i + 1) k) text p in
-      let h : pos + 1 < end = omega (arith, f .starts, r .even) in
-      let q = row-in image end k r i pos (t .0) h (sym (sought-in image pos end c i k) ∙ t .1) in
+      let n = sym (sought-in image pos end c i k) ∙ t .1 in
+      let h : pos + 1 < end = omega (arith, f .starts, r .even, in-filled image end k r i pos (t .0) n) in
+      let q = row-in image end k r i pos (t .0) h n in
       record {
         counted = q .0;
         texts = q .1 .texts;
@@ -306,3 +322,10 @@ module _ (image : List ℕ) (pos end : ℕ) (c : categorySaid image strings ≡ 
         fits = q .1 .fits;
         shows = t .2 ∙ ap shown (q .1 .is);
       }
+
+  -- in an empty category no text is stored, and none is given
+  pub empty-refused : (i k : ℕ) → end ≤ pos → k ≤ roomMost → stringSaid image (i + 1) k ≡ refuses 2 []
+  unfolding stringSaid textFor bounded fits textSaid on2
+  empty-refused i k h m =
+      let r = category-readable image strings pos end c in
+      rw (r .short, le-leb k roomMost m, sought-in image pos end c i k, in-empty image end r i k pos h)

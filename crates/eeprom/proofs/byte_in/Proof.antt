@@ -1,4 +1,4 @@
--- `eeprom::byte_in` tests the position as the definition does.
+-- `eeprom::byte_in` tests the end, and then the largest position, as the definition does.
 use borrow.Author.Tests.{lt-ltb, le-ltb}
 use Rattle.eeprom.specs.Range.{byteIn}
 use borrow.Author.Needs.{needs}
@@ -13,11 +13,15 @@ add-next c = search needs
 
 returns : tie.Need-returns
 unfolding byteIn
-returns c = rw (c .byte-of .ensures, lt-ltb _ _ (c .before .if1 .taken))
+returns c = rw (le-ltb _ _ (c .if1 .taken))
 
 returns-2 : tie.Need-returns-2
 unfolding byteIn
-returns-2 c = rw (le-ltb _ _ (c .if1 .left))
+returns-2 c = rw (c .byte-of .ensures, lt-ltb _ _ (c .before .before .if1 .left), lt-ltb _ _ (c .before .if2 .taken))
+
+returns-3 : tie.Need-returns-3
+unfolding byteIn
+returns-3 c = rw (lt-ltb _ _ (c .before .if1 .left), le-ltb _ _ (c .if2 .left))
 
 pub byte-in-spec : {M : Type 1} → statement M
-byte-in-spec = tie.close (tie.spec add-next byte-of-requires returns returns-2)
+byte-in-spec = tie.close (tie.spec returns add-next byte-of-requires returns-2 returns-3)

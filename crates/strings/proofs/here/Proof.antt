@@ -2,9 +2,9 @@
 use mathlib.Core.Path.{ap, sym, _∙_}
 use borrow.Author.Needs.{needs}
 use Rattle.eeprom.specs.Answers.{saidByte}
+use Rattle.eeprom.proofs.Laws.{byte-fine}
 use Rattle.refusal.proofs.On.{on3-gives, on3-refuses}
 use Rattle.strings.specs.Strings.{stringHere}
-use Rattle.strings.proofs.Laws.{byte-fine}
 use Rattle.strings.proofs.here.Statement.{statement}
 use Rattle.strings.proofs.here.Tie as tie
 
