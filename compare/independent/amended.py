@@ -13,7 +13,7 @@ force. `--before` may be given more than once. The code asks here, by name.
 from contextlib import contextmanager
 
 # In the order in which they landed.
-NAMES = ("E1", "E4")
+NAMES = ("E1", "E4", "E10")
 
 _switched_off = set()
 

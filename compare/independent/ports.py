@@ -1,5 +1,6 @@
 """Ports and delays."""
 
+from . import amended
 from .refusal import (
     ABSENT, BAD_ARGUMENT, BAD_PORT, NO_PORT, SUM, refuse_unless,
 )
@@ -102,17 +103,27 @@ def port_linked_to(ports, link):
 
 
 def assign(ports, link):
-    """"from the list of active ports, repeated, drop (entry's place + 1),
-    look at 4, take the first unlinked, else absent"."""
+    """Active ports, in the order in which they are looked at: "take the first
+    [unlinked], else absent"."""
     _check_link(link)
-    dropped = _entry_place(ports) + 1
-    places = ports.active_places()
-    for look in range(dropped, dropped + 4):
-        place = places[look % len(places)]
+    for place in _looked_at(ports, _entry_place(ports)):
         if ports.link[place] == 0:
             ports.link[place] = link
             return PORT_AT[place]
     return ABSENT
+
+
+def _looked_at(ports, entry):
+    if amended.in_force("E10"):
+        # "from the entry's place go on in port order, over all four places
+        # and round, over active [..] ports other than the entry"
+        round_ = [(entry + step) % 4 for step in (1, 2, 3)]
+        return [place for place in round_ if ports.active[place]]
+    # "from the list of active ports, repeated, drop (entry's place + 1), look
+    # at 4"
+    places = ports.active_places()
+    return [places[look % len(places)]
+            for look in range(entry + 1, entry + 5)]
 
 
 def set_times(ports, times):

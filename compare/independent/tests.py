@@ -107,10 +107,8 @@ class Bench(Case):
     def test_links_with_equal_times(self):
         before = "1 5 0 1 5 0 0 0 0 0 0 0"
         once = "1 5 0 1 5 7 0 0 0 0 0 0"
-        twice = "1 5 8 1 5 7 0 0 0 0 0 0"
         self.says(f"assign {before} 7", f"gives 3 @ {once}")
-        self.says(f"assign {once} 8", f"gives 0 @ {twice}")
-        self.says(f"assign {twice} 9", f"absent @ {twice}")
+        self.says(f"assign {once} 8", f"absent @ {once}")
 
     def test_two_pdus(self):
         # Address 00 00 30 01 on the wire is 0x01300000, low byte first.
@@ -1006,18 +1004,52 @@ class Ports(Case):
         self.says(f"assign {NO_PORTS} 0", f"refuses 14 @ {NO_PORTS}")
         self.says(f"assign {NO_PORTS} 1", f"refuses 9 @ {NO_PORTS}")
 
-    def test_assign_takes_the_entry(self):
-        # Decision 14: active places 1 and 3, times 1 and 2.
+    def test_assign_passes_the_entry(self):
+        # Active places 1 and 3, times 1 and 2: the entry is place 1.
         self.says("assign " + ports(None, (1, 1, 0), None, (1, 2, 0)) + " 5",
-                  "gives 3 @ 0 0 0 1 1 5 0 0 0 1 2 0")
+                  "gives 2 @ 0 0 0 1 1 0 0 0 0 1 2 5")
+        alone = ports(None, None, (1, 7, 0), None)
+        self.says(f"assign {alone} 5", f"absent @ {alone}")
 
     def test_assign_all_four(self):
-        # The entry is place 0, so place 1 comes first, then 2, 3, 0.
+        # The entry is place 0, so place 1 comes first, then 2, 3.
         self.says(f"assign {ALL_FOUR} 5",
                   "gives 3 @ 1 100 0 1 200 5 1 300 0 1 400 0")
         linked = ports((1, 100, 0), (1, 200, 5), (1, 300, 5), (1, 400, 5))
-        self.says(f"assign {linked} 6",
-                  "gives 0 @ 1 100 6 1 200 5 1 300 5 1 400 5")
+        self.says(f"assign {linked} 6", f"absent @ {linked}")
+
+    def test_assign_goes_round(self):
+        # The entry is place 2: then 3, and from the front 0 and 1, which hold
+        # ports 2, 0 and 3.
+        rounds = ((0, 0, 0, 0), (0, 0, 0, 1), (2, 0, 0, 1), (2, 3, 0, 1))
+        times = (8, 8, 1, 8)
+        for link, port in ((1, 2), (2, 0), (3, 3)):
+            before, after = (
+                ports(*[(1, time, to) for time, to in zip(times, links)])
+                for links in rounds[link - 1:link + 1])
+            self.says(f"assign {before} {link}", f"gives {port} @ {after}")
+        self.says(f"assign {after} 4", f"absent @ {after}")
+
+    def test_assign_keeps_entry_and_links(self):
+        # The first unlinked on the way is set, the entry and all that is
+        # linked stay.
+        for bits in range(1, 16):
+            for linked in range(16):
+                for entry in range(4):
+                    if bits >> entry & 1:
+                        self.assigned(bits, linked, entry)
+
+    def assigned(self, bits, linked, entry):
+        places = [[bits >> at & 1, 1 if at == entry else 2,
+                   9 * (linked >> at & 1)] for at in range(4)]
+        way = [at % 4 for at in range(entry + 1, entry + 4)]
+        free = [at for at in way if places[at][0] and not places[at][2]]
+        line = f"assign {ports(*map(tuple, places))} 5"
+        said = "absent"
+        if free:
+            places[free[0]][2] = 5
+            said = f"gives {(0, 3, 1, 2)[free[0]]}"
+        self.says(line, f"{said} @ {ports(*map(tuple, places))}")
 
     def test_times(self):
         self.says("times " + ports((1, 0, 7), None, None, (1, 0, 0))
@@ -1412,6 +1444,32 @@ class Amended(Case):
         self.before("E4", line, "absent | eeee", "refuses 2 | eeee")
         with amended.before("E1", "E4"):
             self.says(line, "gives 0 | eeee")
+
+    def test_link_to_the_entry(self):
+        # The list of active ports was taken over and over; of two with equal
+        # times the entry came last.
+        once = "1 5 0 1 5 7 0 0 0 0 0 0"
+        self.before("E10", f"assign {once} 8",
+                    "gives 0 @ 1 5 8 1 5 7 0 0 0 0 0 0", f"absent @ {once}")
+        full = "1 5 8 1 5 7 0 0 0 0 0 0"
+        self.before("E10", f"assign {full} 9", *[f"absent @ {full}"] * 2)
+        linked = ports((1, 100, 0), (1, 200, 5), (1, 300, 5), (1, 400, 5))
+        self.before("E10", f"assign {linked} 6",
+                    "gives 0 @ 1 100 6 1 200 5 1 300 5 1 400 5",
+                    f"absent @ {linked}")
+
+    def test_link_behind_an_inactive_place(self):
+        # As many were dropped as the entry's place and one more, though the
+        # list has only active ports. The entry is place 1: two of the list 1,
+        # 3 are dropped, and 1 comes round; of 1, 2, 3 it is 3 that is left.
+        self.before("E10",
+                    "assign " + ports(None, (1, 1, 0), None, (1, 2, 0)) + " 5",
+                    "gives 3 @ 0 0 0 1 1 5 0 0 0 1 2 0",
+                    "gives 2 @ 0 0 0 1 1 0 0 0 0 1 2 5")
+        self.before("E10", "assign "
+                    + ports(None, (1, 1, 0), (1, 2, 0), (1, 2, 0)) + " 5",
+                    "gives 2 @ 0 0 0 1 1 0 1 2 0 1 2 5",
+                    "gives 1 @ 0 0 0 1 1 0 1 2 5 1 2 0")
 
     def test_names(self):
         for name in ("E3", "E99", "", "e1"):

@@ -5,8 +5,10 @@ image in it, at no answer. A line outside it must be answered as before; a
 line in it may be answered as before too.
 """
 
-from .cases import ranges, strings
-from .looked import empty_strings, string_count, string_index
+from .cases import ports, ranges, strings
+from .looked import (
+    active_links, empty_strings, entry_place, string_count, string_index,
+)
 
 CLASSES = {}
 
@@ -42,3 +44,16 @@ def _byte_at_or_past_the_end(request):
     if request.kind == "byte":
         return request.pos >= request.end
     return empty_strings(request)
+
+
+@may_change("E10", ports)
+def _entry_linked_or_ports_dropped(request):
+    """Assigning where the entry is the only active port without a link, which
+    was taken; or where a place before the entry's is inactive, so that with
+    the entry ports behind it were dropped."""
+    entry = entry_place(request) if request.kind == "assign" else None
+    if entry is None:
+        return False
+    links = active_links(request)
+    open_ = [place for place in range(4) if links[place] == 0]
+    return open_ == [entry] or None in links[:entry]

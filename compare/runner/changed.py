@@ -15,6 +15,7 @@ from .request import answer_class, kind_of, parsed
 
 SHOWN = 5
 EXAMPLE_MOST = 160
+TEXTS = ("string", "name", "desc")
 
 
 def main(words=None):
@@ -114,7 +115,8 @@ class Change:
         return taken is not None and bool(self.class_.holds(taken))
 
     def count(self, request, old, new):
-        change = (kind_of(request), f"{shape(old)} -> {shape(new)}")
+        kind = kind_of(request)
+        change = (kind, f"{shape(kind, old)} -> {shape(kind, new)}")
         self.changed[change] += 1
         shortest = self.shortest.setdefault(change, request)
         if len(request) < len(shortest):
@@ -153,10 +155,11 @@ class Change:
                 print(f"    {example}")
 
 
-def shape(answer):
-    """An answer's class; of an empty text or list that it is one."""
-    said = answer.split(" | ")[0].split(" @ ")[0]
-    return said if said == "gives 0" else answer_class(answer)
+def shape(kind, answer):
+    """An answer's class; of an empty text, that it is one."""
+    if kind in TEXTS and answer.startswith("gives 0 "):
+        return "gives 0"
+    return answer_class(answer)
 
 
 if __name__ == "__main__":

@@ -8,9 +8,9 @@ that its entry names and for the answers that the entry gives, no others.
 from types import SimpleNamespace
 
 from .looked import (
-    END_ABOVE, HIGHEST, IMAGE_LIMIT, MOVE_PASSES, active_times,
-    empty_strings, rises_before, searches, skip_passes, string_count,
-    string_index, word_at,
+    END_ABOVE, HIGHEST, IMAGE_LIMIT, MOVE_PASSES, PORT_AT, active_links,
+    active_times, empty_strings, entry_place, rises_before, searches,
+    skip_passes, string_count, string_index, word_at,
 )
 from .request import refused, shown, unchanged
 
@@ -218,6 +218,32 @@ def answered_string(request, oracle):
             or oracle == refused(request, 2)
             or oracle.startswith("refuses 4 ")
             and oracle.endswith(unchanged(request)))
+
+
+@rule("D21")
+def _entry_linked_or_ports_dropped(request, oracle, ours):
+    entry = entry_place(request) if request.kind == "assign" else None
+    if entry is None or request.link == 0:
+        return False
+    # The Rust: the active places over and over, less the entry's place and one.
+    places = [place for place, link in enumerate(active_links(request))
+              if link is not None]
+    theirs = [places[look % len(places)] for look in range(entry + 1,
+                                                           entry + 5)]
+    way = [(entry + step) % 4 for step in (1, 2, 3)]
+    return (oracle == linked_to_first(request, theirs)
+            and ours == linked_to_first(request, way))
+
+
+def linked_to_first(request, places):
+    """The answer that links the first open one of these places."""
+    links = active_links(request)
+    for place in places:
+        if links[place] == 0:
+            after = SimpleNamespace(**vars(request))
+            setattr(after, f"link{place}", request.link)
+            return f"gives {PORT_AT[place]}" + unchanged(after)
+    return "absent" + unchanged(request)
 
 
 # --- Where the Rust has no answer ---

@@ -20,6 +20,24 @@ def active_times(request):
             for place in range(4)]
 
 
+PORT_AT = (0, 3, 1, 2)
+
+
+def active_links(request):
+    """By place: the link of an active port (0 for none), else None."""
+    return [getattr(request, f"link{place}")
+            if getattr(request, f"active{place}") else None
+            for place in range(4)]
+
+
+def entry_place(request):
+    """The active place with the smallest time, the first of equals; None
+    where no port is active."""
+    active = [(time, place) for place, time in enumerate(active_times(request))
+              if time is not None]
+    return min(active)[1] if active else None
+
+
 def rises_before(request):
     """The intermediate sum: neighbours up to the port's place."""
     place = (0, 2, 3, 1)[request.port]

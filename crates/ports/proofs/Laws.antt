@@ -4,14 +4,14 @@ use native.Mathlib.Nat.{zero-add, add-zero}
 use native.Mathlib.Omega.{arith}
 use mathlib.Core.Path.{_≡_, refl, sym, ap, _∙_}
 use mathlib.Core.Bool.{Bool, true, false, _&&_, and-true, and-false}
-use mathlib.Core.List.{List, [], _∷_, _++_, map}
+use mathlib.Core.List.{List, [], _∷_, map}
 use lib.Dec.{ltb}
 use lib.ListN.{length}
 use borrow.Author.Tests.{lt-ltb, ltb-true, ltb-false, leb-true}
 use Rattle.refusal.specs.Said.{pick}
 use Rattle.ports.specs.declared.Ports.{Ports}
 use Rattle.ports.specs.declared.Port.{Port}
-use Rattle.ports.specs.Ports.{numberAt, placeOf, isFree, places, portCount, nowhere, activeAt, timeAt, linkedAt, those, firstThat, folded, taking, lastOf, sooner, earliest, activePorts, entry, only}
+use Rattle.ports.specs.Ports.{numberAt, placeOf, places, portCount, nowhere, activeAt, timeAt, linkedAt, those, firstThat, folded, taking, lastOf, sooner, earliest, activePorts, entry, only}
 use Rattle.ports.specs.Delays.{largest, smallest, breadth, total, between, activeBetween, timeTo}
 
 -- ---- a port
@@ -36,9 +36,6 @@ number-low = at-each (λ (k : ℕ). numberAt k < portCount) (leb-true 1 nowhere 
 
 pub active-is : {q r : Port} {b : Bool} → q ≡ r → q .active ≡ b → r .active ≡ b
 active-is e h = rw e at h
-
-pub free-is : {q r : Port} {f b : Bool} → q ≡ r → f ≡ isFree (q .«downstream_to») → f ≡ b → isFree (r .«downstream_to») ≡ b
-free-is e h i = cc
 
 -- ---- lists of places
 
@@ -87,18 +84,6 @@ length-those g k ks = go (g k)
     go true = omega arith
     go false = sym (zero-add _)
 
-those-append : (g : ℕ → Bool) (k : ℕ) (js ks : List ℕ) → those g (k ∷ js) ++ ks ≡ pick (g k) (k ∷ (those g js ++ ks)) (those g js ++ ks)
-unfolding those
-those-append g k js ks = go (g k)
-  where
-    go : (b : Bool) → pick b (k ∷ those g js) (those g js) ++ ks ≡ pick b (k ∷ (those g js ++ ks)) (those g js ++ ks)
-    go true = refl
-    go false = refl
-
-append-none : (g : ℕ → Bool) (ks : List ℕ) → those g [] ++ ks ≡ ks
-unfolding those
-append-none g ks = refl
-
 length-none : (g : ℕ → Bool) → length (those g []) ≡ 0
 unfolding those
 length-none g = refl
@@ -143,13 +128,6 @@ module _ (p : Ports) where
   pub count-steps : pick (activeAt p 0) 1 0 + (pick (activeAt p 1) 1 0 + (pick (activeAt p 2) 1 0 + pick (activeAt p 3) 1 0)) ≡ length (activePorts p)
   unfolding activePorts
   count-steps = rw (length-those (activeAt p) 0, length-those (activeAt p) 1, length-those (activeAt p) 2, length-those (activeAt p) 3, length-none (activeAt p), add-zero)
-
-  abbrev pub before : ℕ → List ℕ → List ℕ
-  before k ks = pick (activeAt p k) (k ∷ ks) ks
-
-  pub active-append : (ks : List ℕ) → before 0 (before 1 (before 2 (before 3 ks))) ≡ activePorts p ++ ks
-  unfolding activePorts
-  active-append ks = rw (those-append (activeAt p) 0, those-append (activeAt p) 1, those-append (activeAt p) 2, those-append (activeAt p) 3, append-none (activeAt p))
 
   same-times : (g h : ℕ → Bool) → map (timeAt (only g p)) (those h places) ≡ map (timeAt p) (those h places)
   unfolding only

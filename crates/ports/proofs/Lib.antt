@@ -1,7 +1,7 @@
 pub mod Laws
-pub mod Search
 pub mod Words
 pub mod Unique
 pub mod Entry
+pub mod Alike
 pub mod Linking
 pub mod Bench

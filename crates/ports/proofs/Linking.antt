@@ -1,98 +1,134 @@
--- What assigning comes to: the port that it takes was active and unlinked, has the link afterwards, and nothing else of the record changes.
--- Here the assigning rule is opened in assignable-open alone; the search of the code opens it in Search.
-use Prim.Native.Nat.{ℕ, zero, suc, _+_, _≤_, _<_}
+-- What assigning comes to: the port that it takes was active and unlinked and is not the entry port, it has the link afterwards, and nothing else of the record
+-- changes. The assigning rule is opened in the laws of its name, assignable-from and the rest, and nowhere else.
+use Prim.Native.Nat.{ℕ, _+_, _%_, _≤_, _<_}
 use native.Mathlib.Omega.{arith}
-use mathlib.Core.Path.{_≡_, refl, ap, subst, _∙_}
+use mathlib.Core.Path.{_≡_, refl, sym, ap, subst, _∙_}
 use mathlib.Core.Logic.{_≢_}
-use mathlib.Core.Bool.{Bool, true, false}
-use mathlib.Core.List.{List, [], _∷_, _++_}
+use mathlib.Core.Bool.{Bool, true, false, true≢false, _&&_}
+use mathlib.Core.List.{List, [], _∷_}
 use lib.Dec.{ltb, eqb}
-use lib.ListN.{length, take, drop}
+use lib.ListN.{length, List·getD-eq-default}
 use lib.Seq.{getD-set-same, getD-set-other}
 use borrow.Author.Tests.{lt-ltb, le-ltb, eq-eqb, ne-eqb, ltb-true, ltb-false, eqb-true, eqb-false}
 use Rattle.refusal.specs.Said.{Said, pick, gives, absent, refuses}
 use Rattle.ports.specs.declared.Port.{Port}
 use Rattle.ports.specs.declared.Ports.{Ports}
-use Rattle.ports.specs.Ports.{portCount, nowhere, numberAt, placeOf, noPort, portAt, activeAt, timeAt, unlinkedAt, firstThat, folded, activePorts, entry, linked, linkSet}
-use Rattle.ports.specs.Assigning.{repeated, rounds, lookMost, assignable, assignedSaid, linkedAs, assignedPorts}
+use Rattle.ports.specs.Ports.{portCount, nowhere, numberAt, placeOf, noPort, portAt, activeAt, unlinkedAt, firstThat, entry, linked, linkSet}
+use Rattle.ports.specs.Assigning.{othersFrom, openAt, assignable, assignedSaid, linkedAs, assignedPorts}
 use Rattle.ports.specs.Meaning.{Took}
-use Rattle.ports.proofs.Laws.{All, all-active, entry-steps, number-low, place-number}
+use Rattle.ports.proofs.Laws.{at-each, All, number-low, place-number}
+use Rattle.ports.proofs.Alike.{Alike}
 
 -- ---- the rule
 
-module _ (P : ℕ → Type 0) where
-  all-append : (js ks : List ℕ) → All P js → All P ks → All P (js ++ ks)
-  all-append [] ks a b = b
-  all-append (j ∷ js) ks a b = (a .0, all-append js ks (a .1) b)
+-- the first of a list that passes a test is one of the list, or nowhere
+first-is : (P : ℕ → Type 0) (g : ℕ → Bool) (ks : List ℕ) → P nowhere → All P ks → P (firstThat g ks)
+unfolding firstThat
+first-is P g [] n a = n
+first-is P g (k ∷ ks) n a = go (g k) (first-is P g ks n (a .1))
+  where
+    go : (b : Bool) → P (firstThat g ks) → P (pick b k (firstThat g ks))
+    go true next = a .0
+    go false next = next
 
-  all-repeated : (n : ℕ) (ks : List ℕ) → All P ks → All P (repeated n ks)
-  unfolding repeated
-  all-repeated zero ks a = tt
-  all-repeated (suc n) ks a = all-append ks (repeated n ks) a (all-repeated n ks a)
+-- .. and it passes the test
+first-passes : (g : ℕ → Bool) (ks : List ℕ) → firstThat g ks < nowhere → g (firstThat g ks) ≡ true
+unfolding firstThat
+first-passes g [] h = absurd (let z : ⊥ = omega arith in z)
+first-passes g (k ∷ ks) h = go (g k) refl h (first-passes g ks)
+  where
+    go : (b : Bool) → g k ≡ b → pick b k (firstThat g ks) < nowhere → (firstThat g ks < nowhere → g (firstThat g ks) ≡ true) → g (pick b k (firstThat g ks)) ≡ true
+    go true e i next = e
+    go false e i next = next i
 
-  all-drop : (n : ℕ) (ks : List ℕ) → All P ks → All P (drop n ks)
-  all-drop zero ks a = a
-  all-drop (suc n) [] a = tt
-  all-drop (suc n) (k ∷ ks) a = all-drop n ks (a .1)
+-- where there is none, all fail it
+first-none : (g : ℕ → Bool) (ks : List ℕ) → All (λ (k : ℕ). k < nowhere) ks → nowhere ≤ firstThat g ks → All (λ (k : ℕ). g k ≡ false) ks
+unfolding firstThat
+first-none g [] a h = tt
+first-none g (k ∷ ks) a h = go (g k) refl h (first-none g ks (a .1))
+  where
+    go : (b : Bool) → g k ≡ b → nowhere ≤ pick b k (firstThat g ks) → (nowhere ≤ firstThat g ks → All (λ (k : ℕ). g k ≡ false) ks)
+        → (g k ≡ false) × All (λ (k : ℕ). g k ≡ false) ks
+    go true e i next = absurd (let l : k < nowhere = a .0 in let z : ⊥ = omega arith in z)
+    go false e i next = (e, next i)
 
-  all-take : (n : ℕ) (ks : List ℕ) → All P ks → All P (take n ks)
-  all-take zero ks a = tt
-  all-take (suc n) [] a = tt
-  all-take (suc n) (k ∷ ks) a = (a .0, all-take n ks (a .1))
+-- both of two tests hold
+both : (x y : Bool) → x && y ≡ true → (x ≡ true) × (y ≡ true)
+both true y e = (refl, e)
+both false y e = absurd (true≢false (sym e))
 
-  -- the first that passes a test passes it, and is one of the list
-  first-passes : (g : ℕ → Bool) (ks : List ℕ) → All P ks → firstThat g ks < nowhere → P (firstThat g ks) × (g (firstThat g ks) ≡ true)
-  unfolding firstThat
-  first-passes g [] a h = absurd (let z : ⊥ = omega arith in z)
-  first-passes g (k ∷ ks) a h = go (g k) refl h (first-passes g ks (a .1))
+module _ (e : ℕ) (low : e < nowhere) where
+  others-low : All (λ (k : ℕ). k < nowhere) (othersFrom e)
+  others-low = (omega arith, (omega arith, (omega arith, tt)))
+
+  others-not : All (λ (k : ℕ). k ≢ e) (othersFrom e)
+  others-not = (apart 1 (omega arith) (omega arith), (apart 2 (omega arith) (omega arith), (apart 3 (omega arith) (omega arith), tt)))
     where
-      go : (b : Bool) → g k ≡ b → pick b k (firstThat g ks) < nowhere → (firstThat g ks < nowhere → P (firstThat g ks) × (g (firstThat g ks) ≡ true))
-          → P (pick b k (firstThat g ks)) × (g (pick b k (firstThat g ks)) ≡ true)
-      go true e i next = (a .0, e)
-      go false e i next = next i
+      apart : (n : ℕ) → 0 < n → n < nowhere → (e + n) % portCount ≢ e
+      apart n h i q = omega arith
+
+-- what holds of each of them holds of every place but e
+others-all : (P : ℕ → Type 0) (e : ℕ) → e < nowhere → All P (othersFrom e) → (k : ℕ) → k < nowhere → k ≢ e → P k
+others-all P =
+    at-each (λ (e : ℕ). All P (othersFrom e) → (k : ℕ) → k < nowhere → k ≢ e → P k)
+    (λ (a : All P (othersFrom 0)). at-each (λ (k : ℕ). k ≢ 0 → P k) (λ n. absurd (n refl)) (λ n. a .0) (λ n. a .1 .0) (λ n. a .1 .1 .0))
+    (λ (a : All P (othersFrom 1)). at-each (λ (k : ℕ). k ≢ 1 → P k) (λ n. a .1 .1 .0) (λ n. absurd (n refl)) (λ n. a .0) (λ n. a .1 .0))
+    (λ (a : All P (othersFrom 2)). at-each (λ (k : ℕ). k ≢ 2 → P k) (λ n. a .1 .0) (λ n. a .1 .1 .0) (λ n. absurd (n refl)) (λ n. a .0))
+    (λ (a : All P (othersFrom 3)). at-each (λ (k : ℕ). k ≢ 3 → P k) (λ n. a .0) (λ n. a .1 .0) (λ n. a .1 .1 .0) (λ n. absurd (n refl)))
 
 module _ (p : Ports) where
+  -- the rule, where the entry's place is known
+  pub assignable-from : (e : ℕ) → e ≡ entry p → firstThat (openAt p) (othersFrom e) ≡ assignable p
+  unfolding assignable
+  assignable-from e q = rw q
+
   -- the port that the rule takes is active and unlinked
   pub assignable-open : assignable p < nowhere → (activeAt p (assignable p) ≡ true) × (unlinkedAt p (assignable p) ≡ true)
   unfolding assignable
-  assignable-open h =
-      let P : ℕ → Type 0 = (λ (k : ℕ). activeAt p k ≡ true) in
-      first-passes P (unlinkedAt p) (take lookMost (drop (entry p + 1) (repeated rounds (activePorts p))))
-      (all-take P lookMost (drop (entry p + 1) (repeated rounds (activePorts p)))
-      (all-drop P (entry p + 1) (repeated rounds (activePorts p))
-      (all-repeated P rounds (activePorts p) (all-active P p (λ (k : ℕ) (i : k < nowhere) (a : activeAt p k ≡ true). a)))))
-      h
+  assignable-open h = both _ _ (first-passes (openAt p) (othersFrom (entry p)) h)
+
+  module _ (some : entry p < nowhere) where
+    -- .. and never the entry port
+    pub assignable-other : assignable p ≢ entry p
+    unfolding assignable
+    assignable-other = first-is (λ (k : ℕ). k ≢ entry p) (openAt p) (othersFrom (entry p)) (λ (q : nowhere ≡ entry p). let z : ⊥ = omega arith in z) (others-not (entry p) some)
+
+    -- where it takes none, every active port but the entry port is linked
+    pub assignable-none : nowhere ≤ assignable p → (k : ℕ) → k < nowhere → k ≢ entry p → openAt p k ≡ false
+    unfolding assignable
+    assignable-none h = others-all (λ (k : ℕ). openAt p k ≡ false) (entry p) some (first-none (openAt p) (othersFrom (entry p)) (others-low (entry p) some) h)
 
 -- ---- a link
 
-module _ (p : Ports) (k d : ℕ) (h : k < length (p .0)) where
-  link-here : portAt (linkSet p k d) k ≡ linked (portAt p k) d
-  unfolding linkSet
-  link-here = getD-set-same (p .0) k (linked (portAt p k) d) noPort h
+-- an active port is one of the record's
+active-inside : (p : Ports) (k : ℕ) → activeAt p k ≡ true → k < length (p .0)
+active-inside p k a = go (ltb k (length (p .0))) refl
+  where
+    go : (b : Bool) → ltb k (length (p .0)) ≡ b → k < length (p .0)
+    go true e = ltb-true k (length (p .0)) e
+    go false e = absurd (true≢false (sym a ∙ ap (λ (q : Port). q .active) (List·getD-eq-default (p .0) noPort (ltb-false k (length (p .0)) e))))
 
+module _ (p : Ports) (k d : ℕ) where
   link-others : (j : ℕ) → j ≢ k → portAt (linkSet p k d) j ≡ portAt p j
   unfolding linkSet
   link-others j n = getD-set-other (p .0) k j (linked (portAt p k) d) noPort n
 
-  -- what a port keeps when it is linked, every place keeps
-  link-kept : {A : Type 0} (f : Port → A) → f (linked (portAt p k) d) ≡ f (portAt p k) → (j : ℕ) → f (portAt (linkSet p k d) j) ≡ f (portAt p j)
-  link-kept {A} f kept j = go (eqb j k) refl
-    where
-      go : (b : Bool) → eqb j k ≡ b → f (portAt (linkSet p k d) j) ≡ f (portAt p j)
-      go true e = let q : j ≡ k = eqb-true j k e in rw q (ap f link-here ∙ kept)
-      go false e = ap f (link-others j (eqb-false j k e))
+  module _ (a : activeAt p k ≡ true) where
+    link-here : portAt (linkSet p k d) k ≡ linked (portAt p k) d
+    unfolding linkSet
+    link-here = getD-set-same (p .0) k (linked (portAt p k) d) noPort (active-inside p k a)
 
-  -- a link leaves which ports are active, and their times
-  pub link-active : (j : ℕ) → activeAt (linkSet p k d) j ≡ activeAt p j
-  link-active = link-kept (λ (x : Port). x .active) refl
+    -- what a port keeps when it is linked, every place keeps
+    link-kept : {A : Type 0} (f : Port → A) → f (linked (portAt p k) d) ≡ f (portAt p k) → (j : ℕ) → f (portAt (linkSet p k d) j) ≡ f (portAt p j)
+    link-kept {A} f kept j = go (eqb j k) refl
+      where
+        go : (b : Bool) → eqb j k ≡ b → f (portAt (linkSet p k d) j) ≡ f (portAt p j)
+        go true e = let q : j ≡ k = eqb-true j k e in rw q (ap f link-here ∙ kept)
+        go false e = ap f (link-others j (eqb-false j k e))
 
-  pub link-time : (j : ℕ) → timeAt (linkSet p k d) j ≡ timeAt p j
-  link-time = link-kept (λ (x : Port). x .«dc_receive_time») refl
-
-  -- .. and so the entry
-  pub link-entry : entry (linkSet p k d) ≡ entry p
-  unfolding folded
-  link-entry = rw (← entry-steps (linkSet p k d), ← entry-steps p) (simp (link-active, link-time))
+    -- a link leaves which ports are active, and their times
+    pub link-alike : Alike p (linkSet p k d)
+    link-alike = record { actives = link-kept (λ (x : Port). x .active) refl; times = link-kept (λ (x : Port). x .«dc_receive_time») refl }
 
 -- ---- assigning
 
@@ -155,30 +191,65 @@ module _ (p : Ports) (d : ℕ) where
       go false true true other = absurd (other (numberAt (assignable p)) refl)
       go false true false other = refl
 
-  took : length (p .0) ≡ portCount → assignable p < nowhere → Took p d (numberAt (assignable p)) (linkSet p (assignable p) d)
-  took full low =
+  took : entry p < nowhere → assignable p < nowhere → Took p d (numberAt (assignable p)) (linkSet p (assignable p) d)
+  took some low =
       let k = assignable p in
-      let inside : k < length (p .0) = omega arith in
       let there : placeOf (numberAt k) ≡ k = place-number k low in
       let open′ = assignable-open p low in
       record {
         port = number-low k low;
         was-active = rw there (open′ .0);
         was-free = rw there (open′ .1);
-        here = rw there (link-here p k d inside);
-        others = λ (j : ℕ) (n : j ≢ placeOf (numberAt k)). link-others p k d inside j (rw there at n);
+        not-entry = rw there (assignable-other p some);
+        here = rw there (link-here p k d (open′ .0));
+        others = λ (j : ℕ) (n : j ≢ placeOf (numberAt k)). link-others p k d j (rw there at n);
       }
 
   -- a port that is said was taken
-  pub assigned-took : (n : ℕ) → length (p .0) ≡ portCount → assignedSaid p d ≡ gives (n ∷ []) → Took p d n (assignedPorts p d)
+  pub assigned-took : (n : ℕ) → assignedSaid p d ≡ gives (n ∷ []) → Took p d n (assignedPorts p d)
   unfolding assignedSaid assignedPorts
-  assigned-took n full = go (eqb d 0) (ltb (entry p) nowhere) (ltb (assignable p) nowhere) refl
+  assigned-took n = go (eqb d 0) (ltb (entry p) nowhere) (ltb (assignable p) nowhere) refl refl
     where
-      go : (x y z : Bool) → ltb (assignable p) nowhere ≡ z → chosen x y z ≡ gives (n ∷ []) → Took p d n (linkedAs p d (chosen x y z))
-      go true y z q e = absurd (let w : _≡_ {A = ℕ} 0 1 = cc in let r : ⊥ = omega arith in r)
-      go false false z q e = absurd (let w : _≡_ {A = ℕ} 0 1 = cc in let r : ⊥ = omega arith in r)
-      go false true false q e = absurd (let w : _≡_ {A = ℕ} 0 1 = cc in let r : ⊥ = omega arith in r)
-      go false true true q e =
+      go : (x y z : Bool) → ltb (entry p) nowhere ≡ y → ltb (assignable p) nowhere ≡ z → chosen x y z ≡ gives (n ∷ []) → Took p d n (linkedAs p d (chosen x y z))
+      go true y z f q e = absurd (let w : _≡_ {A = ℕ} 0 1 = cc in let r : ⊥ = omega arith in r)
+      go false false z f q e = absurd (let w : _≡_ {A = ℕ} 0 1 = cc in let r : ⊥ = omega arith in r)
+      go false true false f q e = absurd (let w : _≡_ {A = ℕ} 0 1 = cc in let r : ⊥ = omega arith in r)
+      go false true true f q e =
           let low : assignable p < nowhere = ltb-true (assignable p) nowhere q in
           let m : numberAt (assignable p) ≡ n = cc in
-          rw (place-number (assignable p) low) (subst (λ (i : ℕ). Took p d i (linkSet p (assignable p) d)) m (took full low))
+          rw (place-number (assignable p) low)
+          (subst (λ (i : ℕ). Took p d i (linkSet p (assignable p) d)) m (took (ltb-true (entry p) nowhere f) low))
+
+  -- ---- whatever is answered
+
+  -- what holds of the record, and of it with the link that the rule makes, holds after assigning
+  assigned-either : (P : Ports → Type 0) → P p → (entry p < nowhere → assignable p < nowhere → P (linkSet p (assignable p) d)) → P (assignedPorts p d)
+  unfolding assignedSaid assignedPorts
+  assigned-either P stays links = go (eqb d 0) (ltb (entry p) nowhere) (ltb (assignable p) nowhere) refl refl
+    where
+      go : (x y z : Bool) → ltb (entry p) nowhere ≡ y → ltb (assignable p) nowhere ≡ z → P (linkedAs p d (chosen x y z))
+      go true y z f q = stays
+      go false false z f q = stays
+      go false true false f q = stays
+      go false true true f q =
+          let low : assignable p < nowhere = ltb-true (assignable p) nowhere q in
+          rw (place-number (assignable p) low) (links (ltb-true (entry p) nowhere f) low)
+
+  -- the entry port stays as it was, so it is never linked
+  pub entry-stays : portAt (assignedPorts p d) (entry p) ≡ portAt p (entry p)
+  entry-stays =
+      assigned-either (λ (q : Ports). portAt q (entry p) ≡ portAt p (entry p)) refl
+      (λ (some : entry p < nowhere) (low : assignable p < nowhere). link-others p (assignable p) d (entry p) (λ (e : entry p ≡ assignable p). assignable-other p some (sym e)))
+
+  -- a port that is linked stays as it was, so it stays linked to the same device
+  pub linked-stays : (k : ℕ) → unlinkedAt p k ≡ false → portAt (assignedPorts p d) k ≡ portAt p k
+  linked-stays k was =
+      assigned-either (λ (q : Ports). portAt q k ≡ portAt p k) refl
+      (λ (some : entry p < nowhere) (low : assignable p < nowhere).
+      link-others p (assignable p) d k (λ (e : k ≡ assignable p). true≢false (sym (assignable-open p low .1) ∙ ap (unlinkedAt p) (sym e) ∙ was)))
+
+  -- which ports are active stays, and their times; so does all that rests on these alone (Alike): entry, topology and delays
+  pub assigned-alike : Alike p (assignedPorts p d)
+  assigned-alike =
+      assigned-either (Alike p) (record { actives = λ (k : ℕ). refl; times = λ (k : ℕ). refl })
+      (λ (some : entry p < nowhere) (low : assignable p < nowhere). link-alike p (assignable p) d (assignable-open p low .0))

@@ -1,31 +1,26 @@
 -- Which port the next downstream device is linked to (RULES, ports). Definitions only.
 -- The rule stands once, in `assignable`: what is said follows from it, and the record after it from what is said.
-use Prim.Native.Nat.{ℕ, zero, suc, _+_}
-use mathlib.Core.List.{List, [], _++_}
+use Prim.Native.Nat.{ℕ, _+_, _%_}
+use mathlib.Core.Bool.{Bool, _&&_}
+use mathlib.Core.List.{List, [], _∷_}
 use lib.Dec.{ltb, eqb}
-use lib.ListN.{take, drop, getD}
+use lib.ListN.{getD}
 use Rattle.refusal.specs.Said.{Said, gives, absent, refuses, pick}
 use Rattle.ports.specs.declared.Ports.{Ports}
-use Rattle.ports.specs.declared.assign.Look.{Look}
-use Rattle.ports.specs.Ports.{nowhere, placeOf, unlinkedAt, firstThat, activePorts, entry, linkSet}
+use Rattle.ports.specs.Ports.{portCount, nowhere, placeOf, activeAt, unlinkedAt, firstThat, entry, linkSet}
 use Rattle.ports.specs.Answers.{portSaid}
 
--- a list n times over
-unfoldable pub repeated : ℕ → List ℕ → List ℕ
-repeated zero ks = []
-repeated (suc n) ks = ks ++ repeated n ks
+-- the other three places, from place e on, in order and round
+abbrev pub othersFrom : ℕ → List ℕ
+othersFrom e = (e + 1) % portCount ∷ (e + 2) % portCount ∷ (e + 3) % portCount ∷ []
 
--- how often the list of active ports is repeated: enough to drop four and to look at four
-abbrev pub rounds : ℕ
-rounds = 8
+-- whether the port at place k is active and unlinked
+abbrev pub openAt : Ports → ℕ → Bool
+openAt p k = activeAt p k && unlinkedAt p k
 
--- how many of it are looked at
-abbrev pub lookMost : ℕ
-lookMost = 4
-
--- The assigning rule: from the list of active ports, repeated, drop (entry's place + 1), look at 4, take the first unlinked.
+-- The assigning rule: of the places other than the entry's, from it on and round, the first whose port is active and unlinked.
 unfoldable pub assignable : Ports → ℕ
-assignable p = firstThat (unlinkedAt p) (take lookMost (drop (entry p + 1) (repeated rounds (activePorts p))))
+assignable p = firstThat (openAt p) (othersFrom (entry p))
 
 -- what assigning device d says: the port that the rule takes, or absent; device 0 is refused, and so are ports of which none is active
 unfoldable pub assignedSaid : Ports → ℕ → Said
@@ -40,7 +35,3 @@ linkedAs p d (refuses n l) = p
 -- the record after assigning device d
 unfoldable pub assignedPorts : Ports → ℕ → Ports
 assignedPorts p d = linkedAs p d (assignedSaid p d)
-
--- what a search of the repeated list takes, that stands at l, in the ports ks that follow
-unfoldable pub finds : Ports → Look → List ℕ → ℕ
-finds p l ks = pick (ltb (l .taken) nowhere) (l .taken) (firstThat (unlinkedAt p) (take (l .left) (drop (l .skip) ks)))

@@ -1,76 +1,31 @@
-// The assigning rule, by going through the list of active ports over and over.
+// The assigning rule: the places after the entry's, in order and round, are asked one by one.
 ghost use mathlib.Core.Path.{_≡_};
-ghost use mathlib.Core.List.{List, _∷_, _++_};
-ghost use Prim.Native.Nat.{ℕ, _<_};
-ghost use Rattle.refusal.specs.Said.{pick};
-ghost use Rattle.ports.specs.Ports.{nowhere, isFree, activeAt, activePorts, entry};
-ghost use Rattle.ports.specs.Assigning.{assignable, finds};
+ghost use Prim.Native.Nat.{_<_};
+ghost use Rattle.ports.specs.Ports.{nowhere, entry};
+ghost use Rattle.ports.specs.Assigning.{openAt, assignable};
 use crate::Link;
 use crate::Ports;
 use crate::place::NOWHERE;
-use crate::place::port_at;
 
-// How often the list of active ports is repeated: enough to drop four and to look at four.
-const ROUNDS: usize = 8;
+// How many places there are: after the last comes the first.
+const PLACE_COUNT: usize = 4;
 
-// How many of it are looked at.
-const LOOK_MOST: usize = 4;
-
-// Where a search of the repeated list stands.
-struct Look {
-    // How many are still to be dropped.
-    skip: usize,
-    // How many are still to be looked at.
-    left: usize,
-    // The place that is taken, or nowhere.
-    taken: usize,
-}
-
-// Whether no device is linked.
-fn is_free(link: Link) -> bool
-    ensures { λ r. ⌜ r ≡ isFree link ⌝ }
-{
-    match link {
-        Link::Free => true,
-        Link::To(_) => false,
-    }
-}
-
-// The search passes the place k.
-fn pass(p: Ports, l: Look, k: usize) -> Look
+// Whether the port at a place is active and has no link.
+fn is_open(p: Ports, k: usize) -> bool
     requires { ⌜ k < nowhere ⌝ }
-    ensures { λ r. ⌜ ((ks : List ℕ) → finds p r ks ≡ finds p l (pick (activeAt p k) (k ∷ ks) ks)) ⌝ }
+    ensures { λ r. ⌜ r ≡ openAt p k ⌝ }
 {
-    let q = port_at(p, k);
+    let a = p.0;
+    let q = a[k];
     if q.active {
-        if l.taken < NOWHERE {
-            return l;
-        }
-        if 0 < l.skip {
-            return Look {
-                skip: l.skip - 1,
-                left: l.left,
-                taken: NOWHERE,
-            };
-        }
-        if l.left == 0 {
-            return l;
-        }
-        Look {
-            skip: 0,
-            left: l.left - 1,
-            taken: if is_free(q.downstream_to) { k } else { NOWHERE },
+        let link = q.downstream_to;
+        match link {
+            Link::Free => true,
+            Link::To(_) => false,
         }
     } else {
-        l
+        false
     }
-}
-
-// The search passes the list of active ports once.
-fn turn(p: Ports, l: Look) -> Look
-    ensures { λ r. ⌜ ((ks : List ℕ) → finds p r ks ≡ finds p l (activePorts p ++ ks)) ⌝ }
-{
-    pass(p, pass(p, pass(p, pass(p, l, 0), 1), 2), 3)
 }
 
 // The place that the next downstream device is linked to, or nowhere; e is the entry's place.
@@ -78,15 +33,17 @@ pub(crate) fn next_assignable_port(p: Ports, e: usize) -> usize
     requires { ⌜ (e ≡ entry p) × (e < nowhere) ⌝ }
     ensures { λ r. ⌜ r ≡ assignable p ⌝ }
 {
-    let mut l = Look {
-        skip: e + 1,
-        left: LOOK_MOST,
-        taken: NOWHERE,
-    };
-    let mut i = 0usize;
-    while i < ROUNDS {
-        l = turn(p, l);
-        i += 1;
+    let first = (e + 1) % PLACE_COUNT;
+    if is_open(p, first) {
+        return first;
     }
-    if l.taken < NOWHERE { l.taken } else { NOWHERE }
+    let second = (e + 2) % PLACE_COUNT;
+    if is_open(p, second) {
+        return second;
+    }
+    let third = (e + 3) % PLACE_COUNT;
+    if is_open(p, third) {
+        return third;
+    }
+    NOWHERE
 }

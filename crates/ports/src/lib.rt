@@ -198,7 +198,7 @@ impl Ports {
         }
     }
 
-    // Links a downstream device to the next port, from the entry on, that has none. Refuses 14 for device 0, then 9.
+    // Links a downstream device to the first active port after the entry, round, that has none; never to the entry. Refuses 14 for device 0, then 9.
     pub fn assign_next_downstream_port(self, downstream_subdevice_index: u16) -> Assigned
         ensures { λ r. ⌜ (saidPort (r .answer) ≡ assignedSaid self «downstream_subdevice_index») × (r .ports ≡ assignedPorts self «downstream_subdevice_index») ⌝ }
     {
