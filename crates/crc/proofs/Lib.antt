@@ -1,3 +1,4 @@
 pub mod Division
 pub mod Laws
+pub mod Entries
 pub mod Bench
