@@ -7,13 +7,14 @@ answers that changed (`compare/changed`):
     python3 compare/independent --before E1
 
 answers by the rules as they were before E1, with all other amendments in
-force. `--before` may be given more than once. The code asks here, by name.
+force. A word that a request added can't be read before it. `--before` may be
+given more than once. The code asks here, by name.
 """
 
 from contextlib import contextmanager
 
 # In the order in which they landed.
-NAMES = ("E1", "E4", "E10")
+NAMES = ("E1", "E4", "E10", "E6")
 
 _switched_off = set()
 

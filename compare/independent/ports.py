@@ -10,6 +10,7 @@ PORT_AT = (0, 3, 1, 2)
 PLACE_OF = (0, 2, 3, 1)
 
 SUM_LIMIT = 4_294_967_295
+TIMES = 2 ** 32
 
 
 class Ports:
@@ -66,6 +67,16 @@ def _largest_less_smallest(times):
 def total(ports):
     return _largest_less_smallest(
         [ports.time[place] for place in ports.active_places()])
+
+
+def total_from(ports, port):
+    """"elapsed time is the port's time minus the entry's, wrapping at 2 to
+    the 32, and the total is the largest elapsed time among active ports,
+    absent if 0"."""
+    entry = _place_of(port)
+    refuse_unless(ports.active[entry], NO_PORT)
+    return max((ports.time[place] - ports.time[entry]) % TIMES
+               for place in ports.active_places()) or ABSENT
 
 
 def time_to_port(ports, port):

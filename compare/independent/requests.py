@@ -1,7 +1,7 @@
 """The table of requests: for each, the kinds of its words and its answer."""
 
 from . import (
-    category, crc, eeprom, frames, ports, setup, sii, spread, strings,
+    amended, category, crc, eeprom, frames, ports, setup, sii, spread, strings,
 )
 from .lines import (
     UNREADABLE, Unreadable, active, chunk, counted, data, lent, nothing,
@@ -19,6 +19,9 @@ LINE_LIMIT = 600_000
 
 TABLE = {}
 
+# Words that a request added: before it they are unknown.
+ADDED_BY = {b"totalfrom": "E6"}
+
 
 def request(word, *kinds):
     """Enters a function into the table. It gets the values of the words."""
@@ -35,6 +38,8 @@ def answer(line):
     if len(line) > LINE_LIMIT:
         return UNREADABLE
     words = line.split(b" ")
+    if words[0] in ADDED_BY and not amended.in_force(ADDED_BY[words[0]]):
+        return UNREADABLE
     try:
         kinds, function = TABLE[words[0]]
         if len(words) != len(kinds) + 1:
@@ -266,6 +271,11 @@ def _topology(*numbers):
 @request(b"total", *PORTS)
 def _total(*numbers):
     return said(ports.total, _ports(numbers))
+
+
+@request(b"totalfrom", *PORTS, u8)
+def _total_from(*numbers):
+    return said(ports.total_from, _ports(numbers), numbers[12])
 
 
 @request(b"timeto", *PORTS, u8)

@@ -9,6 +9,7 @@ import subprocess
 import sys
 import unittest
 from functools import lru_cache
+from itertools import product
 
 HERE = os.path.dirname(os.path.abspath(__file__))
 sys.path.insert(0, os.path.dirname(HERE))
@@ -948,6 +949,61 @@ class Ports(Case):
         self.says("total " + ports((1, 9, 0), (0, 1, 0), (1, 4, 0), None),
                   "gives 5")
 
+    # Times that pass the wrap: 0, 5, 10 and 16 after the first.
+    WRAPPED = ports((1, 4294967290, 0), (1, 4294967295, 0), (1, 4, 0),
+                    (1, 10, 0))
+
+    def test_total_from(self):
+        # Places 0 to 3 hold ports 0, 3, 1, 2.
+        for port, largest in ((0, 16),
+                              # From 4,294,967,295 it is 4,294,967,291 to
+                              # 4,294,967,290, the other way round.
+                              (3, 4294967291),
+                              (1, 4294967291), (2, 4294967290)):
+            self.says(f"totalfrom {self.WRAPPED} {port}", f"gives {largest}")
+        self.says(f"total {self.WRAPPED}", "gives 4294967291")
+        self.says(f"totalfrom {ALL_FOUR} 0", "gives 300")
+        # 100 less 200 is 4,294,967,196.
+        self.says(f"totalfrom {ALL_FOUR} 3", "gives 4294967196")
+
+    def test_total_from_absent(self):
+        same = ports((1, 7, 0), (0, 8, 0), (1, 7, 0), None)
+        self.says(f"totalfrom {same} 0", "absent")
+        self.says(f"totalfrom {same} 1", "absent")
+        self.says("totalfrom " + ports(None, None, None, (1, 7, 0)) + " 2",
+                  "absent")
+
+    def test_total_from_refused(self):
+        # 10 comes before 9, which is the named port's.
+        self.says(f"totalfrom {NO_PORTS} 4", "refuses 10")
+        self.says(f"totalfrom {NO_PORTS} 255", "refuses 10")
+        self.says(f"totalfrom {ALL_FOUR} 4", "refuses 10")
+        for port in range(4):
+            self.says(f"totalfrom {NO_PORTS} {port}", "refuses 9")
+        self.says(f"totalfrom {THREE} 1", "refuses 9")
+        self.says(f"totalfrom {THREE} 3", "gives 4294967276")
+
+    def test_total_from_looks_at_active_ports_alone(self):
+        some = ports((1, 5, 0), (0, 900, 0), (1, 8, 0), (0, 1, 0))
+        self.says(f"totalfrom {some} 0", "gives 3")
+        self.says(f"totalfrom {some} 1", "gives 4294967293")
+
+    def test_total_from_the_smallest_is_the_total(self):
+        edges = (0, 1, 2 ** 31, 2 ** 32 - 1)
+        agreed = 0
+        for bits in range(16):
+            for times in product(edges, repeat=4):
+                places = [(bits >> at & 1, times[at], 0) for at in range(4)]
+                active = [time for on, time, _ in places if on]
+                for place, port in enumerate((0, 3, 1, 2)):
+                    on, time, _ = places[place]
+                    if on and time == min(active):
+                        agreed += 1
+                        self.assertEqual(
+                            ask(f"totalfrom {ports(*places)} {port}"),
+                            ask(f"total {ports(*places)}"))
+        self.assertGreater(agreed, 4000)
+
     def test_time_to(self):
         self.says(f"timeto {ALL_FOUR} 0", "absent")
         self.says(f"timeto {ALL_FOUR} 3", "gives 100")
@@ -1471,6 +1527,13 @@ class Amended(Case):
                     "gives 2 @ 0 0 0 1 1 0 1 2 0 1 2 5",
                     "gives 1 @ 0 0 0 1 1 0 1 2 5 1 2 0")
 
+    def test_word_that_was_added(self):
+        self.before("E6", f"totalfrom {ALL_FOUR} 0", "refuses 14", "gives 300")
+        self.before("E6", f"totalfrom {ALL_FOUR} 4", "refuses 14",
+                    "refuses 10")
+        self.before("E6", f"totalfrom {ALL_FOUR}", *["refuses 14"] * 2)
+        self.before("E6", f"total {ALL_FOUR}", *["gives 300"] * 2)
+
     def test_names(self):
         for name in ("E3", "E99", "", "e1"):
             self.assertRaises(amended.NoAmendment, amended.switch_off, name)
@@ -1551,7 +1614,8 @@ class Lines(Case):
                         + " 4")
 
     def test_widths(self):
-        self.unreadable(f"timeto {ALL_FOUR} 256", f"linked {ALL_FOUR} 65536",
+        self.unreadable(f"timeto {ALL_FOUR} 256", f"totalfrom {ALL_FOUR} 256",
+                        f"linked {ALL_FOUR} 65536",
                         "string - 4 256 -", "push - 0 0 0 256 0 0 - 0",
                         "push - 0 0 0 0 256 0 - 0",
                         "push - 0 0 0 0 0 4294967296 - 0",
@@ -1595,6 +1659,7 @@ class Lines(Case):
                 "string 00 4 1 00", "name 00 4 00",
                 "desc 00 4 00", f"entry {ALL_FOUR}", f"last {ALL_FOUR}",
                 f"topology {ALL_FOUR}", f"total {ALL_FOUR}",
+                f"totalfrom {ALL_FOUR} 1",
                 f"timeto {ALL_FOUR} 1", f"between {ALL_FOUR} 1",
                 f"linked {ALL_FOUR} 1", f"assign {ALL_FOUR} 1",
                 f"times {ALL_FOUR} 1 2 3 4", f"display {ALL_FOUR}", "open 00",

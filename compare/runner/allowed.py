@@ -57,3 +57,9 @@ def _entry_linked_or_ports_dropped(request):
     links = active_links(request)
     open_ = [place for place in range(4) if links[place] == 0]
     return open_ == [entry] or None in links[:entry]
+
+
+@may_change("E6", ports)
+def _delays_from_a_named_port(request):
+    """The word that was added, and no other."""
+    return request.kind == "totalfrom"

@@ -259,7 +259,7 @@ def silent(request):
         return False
     kind = request.kind
     if kind in ("frame", "spread", "pdi", "bootmail", "version", "checksum",
-                "clocks", "inside", "physport", "physaddr"):
+                "clocks", "inside", "physport", "physaddr", "totalfrom"):
         return True
     if kind == "byte" and request.pos >= request.end:
         # D20: the Rust reads on, and is not asked.

@@ -48,6 +48,7 @@ WORDS = {
     "last": PORTS,
     "topology": PORTS,
     "total": PORTS,
+    "totalfrom": PORTS + ("port",),
     "timeto": PORTS + ("port",),
     "between": PORTS + ("port",),
     "linked": PORTS + ("link",),

@@ -68,6 +68,7 @@ fn answer(mut words: Words) -> Reply {
         b"last" => ports::last(words),
         b"topology" => ports::topology(words),
         b"total" => ports::total(words),
+        b"totalfrom" => ports::total_from(words),
         b"timeto" => ports::time_to(words),
         b"between" => ports::between(words),
         b"linked" => ports::linked(words),

@@ -65,6 +65,14 @@ pub fn total(words: Words) -> Reply {
     Ok(gives_some(ask(|| ports.total_propagation_time())?))
 }
 
+/// Delays from a named port are our request E6; the Rust has no such call.
+pub fn total_from(mut words: Words) -> Reply {
+    read(&mut words)?;
+    words.u8()?;
+    words.end()?;
+    Err(Off::None)
+}
+
 pub fn time_to(mut words: Words) -> Reply {
     let (ports, number) = (read(&mut words)?, words.u8()?);
     words.end()?;

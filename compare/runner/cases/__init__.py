@@ -11,12 +11,12 @@ from math import ceil
 from . import frames, malformed, ports, ranges, setup, sii, spread, strings
 
 # Each topic with its share of the requests, in hundredths. Those of `setup`
-# come on top: the Rust has no answer to them.
+# and two of `ports` come on top: the Rust has no answer to them.
 TOPICS = (
     (ranges, 16),
     (sii, 22),
     (strings, 16),
-    (ports, 14),
+    (ports, 16),
     (frames, 18),
     (spread, 8),
     (malformed, 6),

@@ -22,6 +22,7 @@ def small():
             yield from delays(record(actives, times))
     yield from linkings()
     yield from sums()
+    yield from totals_from()
 
 
 def delays(ports):
@@ -62,15 +63,30 @@ def sums():
         yield from delays(record((1, 1, 1, 1), times))
 
 
+def totals_from():
+    """From each port, active or not, and from numbers that no port has; times
+    on both sides of the wrap."""
+    for actives in ACTIVES:
+        for times in product((0, 1), repeat=4):
+            for port in range(4):
+                yield line("totalfrom", *record(actives, times), port)
+        for port in (*range(6), 255):
+            for times in ((1, 2, 3, 4), (U32 - 1, U32, 0, 1)):
+                yield line("totalfrom", *record(actives, times), port)
+    for times in product((0, 2**31, U32 - 1, U32), repeat=4):
+        for port in range(4):
+            yield line("totalfrom", *record((1, 1, 1, 1), times), port)
+
+
 def some(rng):
     """A record is linked up, call by call, and asked."""
     actives = rng.choice(ACTIVES)
     ports = record(actives, times(rng), links(rng))
     for kind in rng.sample(ALONE, 2):
         yield line(kind, *ports)
-    for _ in range(2):
+    for kind in ("timeto", "between", "totalfrom"):
         port = number(rng, 255) if rng.random() < 0.1 else rng.randrange(4)
-        yield line(rng.choice(("timeto", "between")), *ports, port)
+        yield line(kind, *ports, port)
     for _ in range(rng.randint(1, 5)):
         if rng.random() < 0.15:
             request, after = asked("times", *ports, *times(rng))
@@ -89,6 +105,11 @@ def times(rng):
         return [rng.randint(0, 3) for _ in range(4)]
     if pick < 0.6:
         return sorted(rng.randint(0, 5000) for _ in range(4))
+    if pick < 0.7:
+        # A frame's way, with the clock turning over somewhere on it.
+        first = 2**32 - rng.randint(0, 5000)
+        return [(first + later) % 2**32
+                for later in sorted(rng.randint(0, 5000) for _ in range(4))]
     return [number(rng, U32) for _ in range(4)]
 
 

@@ -12,6 +12,7 @@ use crate::reply::refuses;
 use crate::reply::unreadable;
 use crate::reply::with_record;
 use crate::reply::with_slice;
+use crate::words::TOTALFROM;
 use held::after_assign;
 use ports::Assigned;
 use ports::Link;
@@ -51,6 +52,7 @@ pub(crate) fn shape(name: u64) -> u64 {
         LAST => 0xa42a42_a42a42,
         TOPOLOGY => 0xa42a42_a42a42,
         TOTAL => 0xa42a42_a42a42,
+        TOTALFROM => 0xa42a42_a42a42_1,
         TIMETO => 0xa42a42_a42a42_1,
         BETWEEN => 0xa42a42_a42a42_1,
         LINKED => 0xa42a42_a42a42_2,
@@ -68,6 +70,7 @@ pub(crate) fn answer(name: u64, nums: &[u64], text: &mut [u8], row: &mut [u64]) 
         LAST => of_port(row, p.last_port()),
         TOPOLOGY => of_topology(row, p.topology()),
         TOTAL => of_time(row, p.total_propagation_time()),
+        TOTALFROM => of_time(row, p.total_propagation_time_from(byte(nums, 12))),
         TIMETO => of_time(row, p.propagation_time_to(byte(nums, 12))),
         BETWEEN => of_time(row, p.intermediate_propagation_time_to(byte(nums, 12))),
         LINKED => of_port(row, p.port_assigned_to(word(nums, 12))),

@@ -31,13 +31,20 @@ pub(crate) struct Reading {
     pub second: usize,
 }
 
-// The eight letters of a word, spaces behind a shorter one; 0 of a longer one.
-pub(crate) fn name(word: &[u8]) -> u64 {
+// The one name of nine letters, `totalfrom`, goes by letters that are no word's, with a space between them.
+pub(crate) const TOTALFROM: u64 = 0x746f7461_6c206672;
+
+// Its first eight letters.
+const TOTALFRO: u64 = 0x746f7461_6c66726f;
+
+fn letter(word: &[u8], i: usize) -> u8 {
+    if i < word.len() { word[i] } else { b' ' }
+}
+
+// The first eight letters of a word, spaces behind a shorter one.
+fn eight(word: &[u8]) -> u64 {
     let mut v: u64 = 0;
     let mut i = 0;
-    if 8 < word.len() {
-        return 0;
-    }
     while i < 8 {
         v = v % 0x0100_0000_0000_0000 * 256 + (letter(word, i) as u64);
         i += 1;
@@ -45,8 +52,20 @@ pub(crate) fn name(word: &[u8]) -> u64 {
     v
 }
 
-fn letter(word: &[u8], i: usize) -> u8 {
-    if i < word.len() { word[i] } else { b' ' }
+// A word's letters; 0 of one that is longer than any name.
+pub(crate) fn name(word: &[u8]) -> u64 {
+    let v = eight(word);
+    if word.len() <= 8 {
+        return v;
+    }
+    if word.len() == 9 {
+        if letter(word, 8) == b'm' {
+            if v == TOTALFRO {
+                return TOTALFROM;
+            }
+        }
+    }
+    0
 }
 
 // A word as a number up to this one.

@@ -122,6 +122,7 @@ module _ {M : Type 1} (𝓤 : URA M) (H : Heap 𝓤) (A : Atoms 𝓤) (mem : Mem
     «ports::Ports::last_port» = λ κs a g r s ws vs. one 𝓤 (λ p q. (port-unique r s _ p q, refl));
     «ports::Ports::topology» = λ κs a g r s ws vs. one 𝓤 (λ p q. (topology-unique r s _ p q, refl));
     «ports::Ports::total_propagation_time» = λ κs a g r s ws vs. one 𝓤 (λ p q. (time-unique r s _ p q, refl));
+    «ports::Ports::total_propagation_time_from» = λ κs a g r s ws vs. one 𝓤 (λ p q. (time-unique r s _ p q, refl));
     «ports::Ports::propagation_time_to» = λ κs a g r s ws vs. one 𝓤 (λ p q. (time-unique r s _ p q, refl));
     «ports::Ports::intermediate_propagation_time_to» = λ κs a g r s ws vs. one 𝓤 (λ p q. (time-unique r s _ p q, refl));
     «ports::Ports::assign_next_downstream_port» = λ κs a g r s ws vs. one 𝓤 (λ p q. (assigned-unique _ _ r s p q, refl));

@@ -159,6 +159,7 @@ module _ {M : Type 1} (𝓤 : URA M) (H : Heap 𝓤) (A : Atoms 𝓤) (mem : Mem
     pub «ports::Ports::last_port» : Whole of-ports.Ports.last_port.ended of-ports.Ports.last_port.clauses
     pub «ports::Ports::topology» : Whole of-ports.Ports.topology.ended of-ports.Ports.topology.clauses
     pub «ports::Ports::total_propagation_time» : Whole of-ports.Ports.total_propagation_time.ended of-ports.Ports.total_propagation_time.clauses
+    pub «ports::Ports::total_propagation_time_from» : Whole of-ports.Ports.total_propagation_time_from.ended of-ports.Ports.total_propagation_time_from.clauses
     pub «ports::Ports::propagation_time_to» : Whole of-ports.Ports.propagation_time_to.ended of-ports.Ports.propagation_time_to.clauses
     pub «ports::Ports::intermediate_propagation_time_to» : Whole of-ports.Ports.intermediate_propagation_time_to.ended of-ports.Ports.intermediate_propagation_time_to.clauses
     pub «ports::Ports::assign_next_downstream_port» : Whole of-ports.Ports.assign_next_downstream_port.ended of-ports.Ports.assign_next_downstream_port.clauses

@@ -8,7 +8,7 @@ use Rattle.refusal.specs.Said.{pick}
 use Rattle.ports.specs.declared.Ports.{Ports}
 use Rattle.ports.specs.Ports.{places, activeAt, timeAt, those, earliest, activePorts, entry}
 use Rattle.ports.specs.Answers.{topologySaid}
-use Rattle.ports.specs.Delays.{breadth, total, totalSaid, between, activeBetween, timeTo, timeToSaid, gap, gaps, intermediateSaid}
+use Rattle.ports.specs.Delays.{largest, breadth, total, totalSaid, elapsed, totalFrom, between, activeBetween, timeTo, timeToSaid, gap, gaps, intermediateSaid}
 
 -- the same ports are active, at the same times
 pub record Alike (p q : Ports) : Type 0 where
@@ -35,6 +35,10 @@ module _ {p q : Ports} (a : Alike p q) where
   pub alike-total : total q ≡ total p
   unfolding total activePorts
   alike-total = alike (λ (g : ℕ → Bool) (t : ℕ → ℕ). breadth (map t (those g places)))
+
+  pub alike-total-from : (k : ℕ) → totalFrom q k ≡ totalFrom p k
+  unfolding totalFrom activePorts
+  alike-total-from k = alike (λ (g : ℕ → Bool) (t : ℕ → ℕ). largest (map (λ (j : ℕ). elapsed (t k) (t j)) (those g places)))
 
   pub alike-time-to : (k : ℕ) → timeTo q k ≡ timeTo p k
   unfolding timeTo activeBetween entry activePorts

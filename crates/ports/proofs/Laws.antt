@@ -102,6 +102,11 @@ map-those t u g (k ∷ ks) a = go (g k) (map-those t u g ks (a .1))
     go true next = rw (a .0, next)
     go false next = next
 
+-- .. of the active ports, if they agree at the four places
+pub map-active : (p : Ports) (t u : ℕ → ℕ) → t 0 ≡ u 0 → t 1 ≡ u 1 → t 2 ≡ u 2 → t 3 ≡ u 3 → map t (activePorts p) ≡ map u (activePorts p)
+unfolding activePorts
+map-active p t u a b c d = map-those t u (activeAt p) places (a, (b, (c, (d, tt))))
+
 -- ---- the active ports of a device, over its four places
 
 module _ (p : Ports) where

@@ -1,11 +1,11 @@
 -- Delays of a device (RULES, ports), from the receive times of its active ports. Definitions only.
-use Prim.Native.Nat.{ℕ, zero, suc, _+_, _-_, min, max}
+use Prim.Native.Nat.{ℕ, zero, suc, _+_, _-_, _%_, min, max}
 use mathlib.Core.Bool.{Bool, _&&_}
 use mathlib.Core.List.{List, [], _∷_, map}
 use lib.Dec.{ltb, leb, eqb}
 use Rattle.refusal.specs.Said.{Said, gives, absent, refuses, pick}
 use Rattle.ports.specs.declared.Ports.{Ports}
-use Rattle.ports.specs.Ports.{portCount, nowhere, placeOf, activeAt, timeAt, those, folded, activePorts, entry}
+use Rattle.ports.specs.Ports.{portCount, nowhere, placeOf, activeAt, timeAt, those, folded, activePorts, entry, timesSet}
 
 -- the largest and the smallest of a list of times, 0 of an empty one
 unfoldable pub largest : List ℕ → ℕ
@@ -32,6 +32,28 @@ total p = breadth (map (timeAt p) (activePorts p))
 -- what is said of it
 unfoldable pub totalSaid : Ports → Said
 totalSaid p = delaySaid (total p)
+
+-- ---- from a port that the caller names as the entry
+
+-- the clock of receive times has 32 bits: at this it turns over
+abbrev pub clockRound : ℕ
+clockRound = 4294967296
+
+-- the time that has elapsed at t since e: t minus e, wrapping where the clock turns over
+unfoldable pub elapsed : ℕ → ℕ → ℕ
+elapsed e t = (t + clockRound - e) % clockRound
+
+-- the largest time that has elapsed at an active port since place k
+unfoldable pub totalFrom : Ports → ℕ → ℕ
+totalFrom p k = largest (map (λ (j : ℕ). elapsed (timeAt p k) (timeAt p j)) (activePorts p))
+
+-- what is said of it, for port n: 10 is tested before 9
+unfoldable pub totalFromSaid : Ports → ℕ → Said
+totalFromSaid p n = pick (ltb n portCount) (pick (activeAt p (placeOf n)) (delaySaid (totalFrom p (placeOf n))) (refuses 9 [])) (refuses 10 [])
+
+-- the record whose times are those elapsed since the time e
+unfoldable pub countedFrom : Ports → ℕ → Ports
+countedFrom p e = timesSet p (elapsed e (timeAt p 0)) (elapsed e (timeAt p 1)) (elapsed e (timeAt p 2)) (elapsed e (timeAt p 3))
 
 -- ---- to a port
 

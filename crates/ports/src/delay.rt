@@ -1,16 +1,17 @@
-// Delays from the receive times of the active ports: over all of them, from the entry to a port, between neighbours.
+// Delays from the receive times of the active ports: over all of them, since a named entry, from the entry to a port, between neighbours.
 ghost use mathlib.Core.Path.{_≡_};
 ghost use mathlib.Core.List.{map};
 ghost use Prim.Native.Nat.{_<_, _≤_, _+_, _-_, max};
-ghost use Rattle.ports.specs.Ports.{nowhere, activeAt, timeAt, taking, portAt, activePorts, onlyIf, only};
+ghost use Rattle.ports.specs.Ports.{nowhere, activeAt, timeAt, taking, portAt, activePorts, timed, onlyIf, only};
 ghost use Rattle.ports.specs.Answers.{saidTime};
-ghost use Rattle.ports.specs.Delays.{largest, total, delaySaid, gap, gaps, between, sumMost};
+ghost use Rattle.ports.specs.Delays.{largest, total, delaySaid, elapsed, totalFrom, countedFrom, gap, gaps, between, sumMost};
 use crate::Port;
 use crate::Ports;
 use crate::TimeAnswer;
 use crate::active::entry_place;
 use crate::place::NOWHERE;
 use crate::place::port_at;
+use crate::place::timed_at;
 
 // A sum of delays has 32 bits.
 pub(crate) const SUM_MOST: u64 = 4294967295;
@@ -67,6 +68,35 @@ pub(crate) fn total_time(p: Ports) -> u32
     } else {
         0
     }
+}
+
+// The port at a place with the time that has elapsed there since e, round.
+fn since(p: Ports, e: u32, k: usize) -> Port
+    requires { ⌜ k < nowhere ⌝ }
+    ensures { λ r. ⌜ r ≡ timed (portAt p k) (elapsed e (timeAt p k)) ⌝ }
+{
+    let q = port_at(p, k);
+    timed_at(p, k, std::num::wrapping_sub_u32(q.dc_receive_time, e))
+}
+
+// The record whose times are those elapsed since e.
+fn counted_from(p: Ports, e: u32) -> Ports
+    ensures { λ r. ⌜ r ≡ countedFrom p e ⌝ }
+{
+    Ports([
+        since(p, e, 0),
+        since(p, e, 1),
+        since(p, e, 2),
+        since(p, e, 3),
+    ])
+}
+
+// The largest time that has elapsed at an active port since the place k.
+pub(crate) fn total_since(p: Ports, k: usize) -> u32
+    requires { ⌜ k < nowhere ⌝ }
+    ensures { λ r. ⌜ r ≡ totalFrom p k ⌝ }
+{
+    largest_time(counted_from(p, port_at(p, k).dc_receive_time))
 }
 
 // The port at a place, active only if the place lies from one to another.

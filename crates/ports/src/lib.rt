@@ -4,7 +4,7 @@
 ghost use mathlib.Core.Path.{_≡_};
 ghost use Rattle.ports.specs.Ports.{fresh, timesSet};
 ghost use Rattle.ports.specs.Answers.{saidPort, saidTime, saidTopology, saidText, entrySaid, lastSaid, linkedSaid, topologySaid};
-ghost use Rattle.ports.specs.Delays.{totalSaid, timeToSaid, intermediateSaid};
+ghost use Rattle.ports.specs.Delays.{totalSaid, totalFromSaid, timeToSaid, intermediateSaid};
 ghost use Rattle.ports.specs.Assigning.{assignedSaid, assignedPorts};
 ghost use Rattle.ports.specs.Display.{displaySaid, displayBuf};
 use active::count;
@@ -17,12 +17,14 @@ use delay::SUM_MOST;
 use delay::delay;
 use delay::gaps_before;
 use delay::narrowed;
+use delay::total_since;
 use delay::total_time;
 use place::NOWHERE;
 use place::fresh_port;
 use place::linked_at;
 use place::number_at;
 use place::place_of;
+use place::port_at;
 use place::port_or_absent;
 use place::timed_at;
 use refusal::Refusal;
@@ -166,7 +168,23 @@ impl Ports {
         delay(total_time(self))
     }
 
-    // .. through the active ports from the entry to this one. Refuses 10, then 9.
+    // The longest time from the named entry port to an active port, on a clock that may turn over between; absent if 0. Refuses 10, then 9 if it is inactive.
+    pub fn total_propagation_time_from(self, entry: u8) -> TimeAnswer
+        ensures { λ r. ⌜ saidTime r ≡ totalFromSaid self entry ⌝ }
+    {
+        if entry < PORT_COUNT {
+            let k = place_of(entry);
+            if port_at(self, k).active {
+                delay(total_since(self, k))
+            } else {
+                TimeAnswer::No(Refusal::NoPort)
+            }
+        } else {
+            TimeAnswer::No(Refusal::BadPort)
+        }
+    }
+
+    // How long a frame takes through the active ports from the entry to this one; absent if 0. Refuses 10, then 9.
     pub fn propagation_time_to(self, port: u8) -> TimeAnswer
         ensures { λ r. ⌜ saidTime r ≡ timeToSaid self port ⌝ }
     {

@@ -1,19 +1,14 @@
--- `desk::words::name` is safe and ends: the letters that are left fall.
-use mathlib.Core.Path.{_≡_}
+-- `desk::words::eight` is safe and ends: the letters that are left fall.
 use borrow.Author.Needs.{needs}
-use lib.ListN.{length}
-use Prim.Native.Nat.{_≤_, _<_, _+_, _-_, _*_}
-use Rattle.desk.proofs.words.name.Statement.{statement}
-use Rattle.desk.proofs.words.name.Tie as tie
+use Prim.Native.Nat.{_-_}
+use Rattle.desk.proofs.words.eight.Statement.{statement}
+use Rattle.desk.proofs.words.eight.Tie as tie
 
 abbrev Inv-loop : tie.InvT-loop
 Inv-loop word v₀ i₀ v i = Unit {0}
 
 abbrev μ-loop : tie.MeasureT-loop
 μ-loop word v₀ i₀ v i = 8 - i
-
-returns : tie.Need-returns Inv-loop μ-loop
-returns c = search needs
 
 loop-holds : tie.Need-loop-holds Inv-loop μ-loop
 loop-holds c = search needs
@@ -39,16 +34,15 @@ loop-less c = search needs
 loop-again : tie.Need-loop-again Inv-loop μ-loop
 loop-again c = search needs
 
-returns-2 : tie.Need-returns-2 Inv-loop μ-loop
-returns-2 c = search needs
+returns : tie.Need-returns Inv-loop μ-loop
+returns c = search needs
 
-pub name-spec : {M : Type 1} → statement M
-name-spec =
+pub eight-spec : {M : Type 1} → statement M
+eight-spec =
     tie.close
     (tie.spec
     Inv-loop
     μ-loop
-    returns
     loop-holds
     mul-v
     letter-requires
@@ -57,4 +51,4 @@ name-spec =
     add-i
     loop-less
     loop-again
-    returns-2)
+    returns)
