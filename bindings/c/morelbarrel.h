@@ -65,7 +65,9 @@ enum {
     MOREL_SPREAD = 2 + 3 * 32     /* next index, how many areas, and the state of each */
 };
 
-/* ---- EEPROM images: 0 to 65,536 bytes, else 14. Bytes past the end read as 0xFF. */
+/* ---- EEPROM images: 0 to MOREL_IMAGE_MOST bytes, else 14. Bytes past the end read as 0xFF. */
+
+enum { MOREL_IMAGE_MOST = 131072 };
 
 /* The CRC-8 of the bytes: polynomial 0x07, start 0xFF. This one answers the checksum itself, so that its 14 for (NULL, n) may be a checksum too. */
 uint8_t morel_crc(const uint8_t *bytes, size_t bytes_len);
@@ -85,7 +87,8 @@ uint8_t morel_mailbox_config(const uint8_t *image, size_t image_len, uint64_t *o
 /* The EEPROM's size in bytes: MOREL_NUMBER. Refuses 14. */
 uint8_t morel_size(const uint8_t *image, size_t image_len, uint64_t *out, size_t out_len);
 
-/* Where the first category of this number (10, 30, 40, 41, 42, 50, 51 or 60) starts and ends, in bytes: MOREL_RANGE. Absent. Refuses 14, 1. */
+/* Where the first category of this number (10, 30, 40, 41, 42, 50, 51 or 60) starts and ends, in bytes: MOREL_RANGE. Absent. Refuses 14; 1 where
+ * it would end past MOREL_IMAGE_MOST, or a header leads past word 65,535. */
 uint8_t morel_category(const uint8_t *image, size_t image_len, uint16_t number, uint64_t *out, size_t out_len);
 
 /* Whether all that the search for this category looks at, its headers and the end mark, and the category that it finds lie in the image, 1 or 0:

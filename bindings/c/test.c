@@ -37,8 +37,8 @@ static int row_is(const uint64_t *row, size_t n, const uint64_t *want, size_t m)
            sizeof((const uint64_t[]){__VA_ARGS__}) / sizeof(uint64_t))
 #define KEPT(row) row_is(row, sizeof(row) / sizeof *(row), NULL, 0)
 
-/* 65,537 bytes: too long for an image. */
-static uint8_t too_long[65537];
+/* One byte too long for an image. */
+static uint8_t too_long[MOREL_IMAGE_MOST + 1];
 
 /* ---- an image: fixed area, strings, General, end. Lengths in words. */
 static const uint8_t strings_body[] = {0x02, 0x03, 0x41, 0x00, 0xB5, 0x01, 0x42, 0x00};
@@ -157,6 +157,44 @@ static void categories(void) {
     CHECK(morel_general(image, n, row, 20) == MOREL_DECODE && KEPT(row));
     CHECK(morel_general(image, 140, row, 20) == MOREL_NO_CATEGORY && KEPT(row));
     CHECK(morel_general(too_long, sizeof too_long, row, 20) == MOREL_BAD_ARGUMENT && KEPT(row));
+}
+
+/* An image of the most bytes: a category of the maker's own, then General, of `words` words, which ends with the image where they are nine. */
+static void make_full(uint8_t *image, uint8_t words) {
+    const size_t header = MOREL_IMAGE_MOST - 22, own = (header - 132) / 2;
+    memset(image, 0xFF, MOREL_IMAGE_MOST);
+    const uint8_t own_header[4] = {0, 8, (uint8_t)own, (uint8_t)(own >> 8)}, general_header[4] = {30, 0, words, 0};
+    memcpy(image + 128, own_header, 4);
+    memcpy(image + header, general_header, 4);
+    memcpy(image + header + 4, general_body, 18);
+}
+
+static void full_images(void) {
+    static uint8_t image[MOREL_IMAGE_MOST + 1];
+    uint64_t row[20];
+
+    make_full(image, 9);
+    blank(row, 20);
+    CHECK(morel_category(image, MOREL_IMAGE_MOST, 30, row, 20) == MOREL_GIVES && IS(row, MOREL_IMAGE_MOST - 18, MOREL_IMAGE_MOST));
+    blank(row, 20);
+    CHECK(morel_category_inside(image, MOREL_IMAGE_MOST, 30, row, 20) == MOREL_GIVES && IS(row, 1));
+    blank(row, 20);
+    CHECK(morel_category_inside(image, MOREL_IMAGE_MOST - 1, 30, row, 20) == MOREL_GIVES && IS(row, 0));
+    blank(row, 20);
+    CHECK(morel_general(image, MOREL_IMAGE_MOST, row, 20) == MOREL_GIVES && IS(row, 0, 0, 1, 2, 0x0F, 1, 0, 3, 300, 1, 1, 3, 4, 0x1000));
+    CHECK(morel_set_station_alias(image, MOREL_IMAGE_MOST, 0x1234) == MOREL_GIVES && image[8] == 0x34 && image[9] == 0x12);
+    blank(row, 20);
+    CHECK(morel_station_alias(image, MOREL_IMAGE_MOST, row, 20) == MOREL_GIVES && IS(row, 0x1234));
+
+    /* one byte more is 14 */
+    blank(row, 20);
+    CHECK(morel_category(image, MOREL_IMAGE_MOST + 1, 30, row, 20) == MOREL_BAD_ARGUMENT && KEPT(row));
+    CHECK(morel_set_station_alias(image, MOREL_IMAGE_MOST + 1, 7) == MOREL_BAD_ARGUMENT && image[8] == 0x34);
+
+    /* a category that would end a word past the limit is 1, and so is a search that its header leads on */
+    make_full(image, 10);
+    CHECK(morel_category(image, MOREL_IMAGE_MOST, 30, row, 20) == MOREL_ADDRESS && KEPT(row));
+    CHECK(morel_category(image, MOREL_IMAGE_MOST, 41, row, 20) == MOREL_ADDRESS && KEPT(row));
 }
 
 static void strings(void) {
@@ -400,7 +438,7 @@ static int digit(char c) {
 static int read_bytes(const char *text, struct word *w) {
     size_t n = strlen(text);
     if (strcmp(text, "-") == 0) n = 0;
-    else if (n == 0 || n % 2 || n / 2 > 131072) return 0;
+    else if (n == 0 || n % 2 || n / 2 > 2 * MOREL_IMAGE_MOST) return 0;
     w->len = n / 2;
     w->bytes = malloc(w->len + 1);
     for (size_t i = 0; i < w->len; i++) {
@@ -572,7 +610,7 @@ static void replay(const char *requests, const char *answers) {
         fprintf(stderr, "cannot open %s or %s\n", requests, answers);
         exit(2);
     }
-    text = malloc(1 << 20);
+    text = malloc(8 * MOREL_IMAGE_MOST);
     ssize_t got;
     for (unsigned long line = 1; (got = getline(&request, &request_room, in)) > 0 && getline(&want, &want_room, out) > 0; line++) {
         if (strlen(request) != (size_t)got) continue; /* a zero byte: no request */
@@ -603,6 +641,7 @@ int main(int argc, char **argv) {
     fixed_area();
     alias_set();
     categories();
+    full_images();
     strings();
     frames();
     spreading();

@@ -20,6 +20,8 @@ FIRST_WORD = 0x0040
 HEADER_WORDS = 2
 EMPTY_LIMIT = 32
 END_TYPE = 0xFFFF
+# A search moves by 16-bit words, however long the image.
+LAST_WORD = 65_535
 
 
 def category(image, number):
@@ -50,7 +52,7 @@ def _search(image, number, ends):
         ends.append(2 * word + (2 if kind == END_TYPE else 2 * HEADER_WORDS))
         # "move on 2 words (past 65,535: absent)"
         word += HEADER_WORDS
-        if word > eeprom.HIGHEST:
+        if word > LAST_WORD:
             return ABSENT
         # "count a zero length, and at the 32nd answer absent, even if that
         # one matches"
@@ -58,7 +60,7 @@ def _search(image, number, ends):
             empty += 1
             if empty == EMPTY_LIMIT:
                 return ABSENT
-        # "a match gives the range"; one that ends above 65,535 is refused (1)
+        # "a match gives the range", and one that ends too high is refused (1)
         if kind == number:
             return eeprom.new(word, length)
         # "type 0xFFFF gives absent"
@@ -66,4 +68,4 @@ def _search(image, number, ends):
             return ABSENT
         # "else move on by the length, and past 65,535 refuse (1)"
         word += length
-        refuse_unless(word <= eeprom.HIGHEST, ADDRESS)
+        refuse_unless(word <= LAST_WORD, ADDRESS)

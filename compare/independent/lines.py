@@ -6,9 +6,9 @@ Unreadable, and the whole line is then answered by a bare `refuses 14`.
 
 from binascii import unhexlify
 
+from . import amended
 from .refusal import ABSENT, Refusal
 
-BYTES_LIMIT = 131_072
 UNREADABLE = "refuses 14"
 HEX_DIGITS = b"0123456789abcdef"
 
@@ -46,6 +46,16 @@ u32 = _number(0xFFFF_FFFF)
 active = _number(1)
 
 
+def position(word):
+    """A range's position or end."""
+    return (u32 if amended.in_force("E7") else u16)(word)
+
+
+def bytes_limit():
+    """Twice an image."""
+    return 262_144 if amended.in_force("E7") else 131_072
+
+
 def chunk(word):
     """4 or 8. No answer depends on it, so nobody looks at it afterwards."""
     value = u16(word)
@@ -58,7 +68,7 @@ def data(word):
     """Lower-case hex pairs, `-` for none."""
     if word == b"-":
         return bytearray()
-    if not word or len(word) % 2 or len(word) > 2 * BYTES_LIMIT:
+    if not word or len(word) % 2 or len(word) > 2 * bytes_limit():
         raise Unreadable
     # unhexlify would take upper case too.
     if word.translate(None, HEX_DIGITS):

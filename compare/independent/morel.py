@@ -16,7 +16,6 @@ from .refusal import ABSENT, BAD_ARGUMENT, Refusal, refuse_unless
 COLUMN = 28
 
 FRAME_FILE_LIMIT = 2_049
-IMAGE_FILE_LIMIT = 65_536
 NAME_LIMIT = 4_096
 COMMAND_NAME_LIMIT = 8
 NUMBER_WORD_LIMIT = 32
@@ -414,7 +413,7 @@ def on_file(command, path, folder, limit, lines):
 
 
 def sii_command(folder, path):
-    return on_file("sii", path, folder, IMAGE_FILE_LIMIT, sii_lines)
+    return on_file("sii", path, folder, eeprom.image_limit(), sii_lines)
 
 
 def frame_command(folder, path):
@@ -464,7 +463,7 @@ def alias_command(folder, path, word, *further):
                          line(f"byte {place} after", hex8(new))]
         return said + [line("alias written", str(value))]
 
-    return on_file("alias", path, folder, IMAGE_FILE_LIMIT, lines)
+    return on_file("alias", path, folder, eeprom.image_limit(), lines)
 
 
 def spread_command(folder, size, areas, path):
@@ -474,7 +473,7 @@ def spread_command(folder, size, areas, path):
                 return error(f"{name} is no number of 32 bits")
         return spread_lines(image, number(size), number(areas))
 
-    return on_file("spread", path, folder, IMAGE_FILE_LIMIT, lines)
+    return on_file("spread", path, folder, eeprom.image_limit(), lines)
 
 
 COMMAND_TABLE = {

@@ -5,17 +5,20 @@ from . import (
 )
 from .lines import (
     UNREADABLE, Unreadable, active, chunk, counted, data, lent, nothing,
-    record, said, u8, u16, u32,
+    position, record, said, u8, u16, u32,
 )
 from .refusal import ABSENT
 
-RANGE = (u16, u16)
+RANGE = (position, position)
 PORTS = (active, u32, u16) * 4
 STATE = (u16, u16, u16)
 COUNTED_STATE = STATE + (u8,)
 IMAGE = (data, chunk)
 
-LINE_LIMIT = 600_000
+
+def line_limit():
+    return 1_179_648 if amended.in_force("E7") else 600_000
+
 
 TABLE = {}
 
@@ -35,7 +38,7 @@ def request(word, *kinds):
 
 def answer(line):
     """The answer to one line, without its line end."""
-    if len(line) > LINE_LIMIT:
+    if len(line) > line_limit():
         return UNREADABLE
     words = line.split(b" ")
     if words[0] in ADDED_BY and not amended.in_force(ADDED_BY[words[0]]):

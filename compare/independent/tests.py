@@ -172,14 +172,20 @@ class Range(Case):
         self.says("new 3 4", "gives 6 14")
         self.says("new 32767 0", "gives 65534 65534")
         self.says("new 0 32767", "gives 0 65534")
-        self.says("new 32768 0", "refuses 1")
-        self.says("new 1 32767", "refuses 1")
+        self.says("new 32768 0", "gives 65536 65536")
+        self.says("new 1 32767", "gives 2 65536")
+        self.says("new 65535 1", "gives 131070 131072")
+        self.says("new 1 65535", "gives 2 131072")
+        self.says("new 65535 2", "refuses 1")
+        self.says("new 2 65535", "refuses 1")
         self.says("new 65535 65535", "refuses 1")
 
     def test_start_at_halves(self):
         self.says("startat 3 9", "gives 6 14")
         self.says("startat 0 65535", "gives 0 65534")
-        self.says("startat 1 65534", "refuses 1")
+        self.says("startat 1 65534", "gives 2 65536")
+        self.says("startat 65535 3", "gives 131070 131072")
+        self.says("startat 65535 4", "refuses 1")
         self.says("startat 0 1", "gives 0 0")
 
     def test_skip(self):
@@ -191,6 +197,9 @@ class Range(Case):
 
     def test_skip_adds_in_full(self):
         self.says("skip 65535 65534 65535", "refuses 2 @ 65535 65534")
+        self.says("skip 65537 131072 65534", "gives @ 131071 131072")
+        self.says("skip 65537 131072 65535", "refuses 2 @ 65537 131072")
+        self.says("skip 131072 131072 0", "refuses 2 @ 131072 131072")
 
     def test_byte_stops_at_the_end(self):
         self.says("byte 0a0b0c 4 0 2", "gives 10 @ 1 2")
@@ -205,9 +214,12 @@ class Range(Case):
         full = "07" * 65_536
         self.says(f"byte {full} 8 65533 65534", "gives 7 @ 65534 65534")
         self.says(f"byte {full} 8 65534 65534", "refuses 2 @ 65534 65534")
+        full = "07" * 131_072
+        self.says(f"byte {full} 8 65536 131072", "gives 7 @ 65537 131072")
+        self.says(f"byte {full} 8 131071 131072", "gives 7 @ 131072 131072")
         # 2 is tested before 1, so 1 is not met.
-        self.says(f"byte {full} 8 65535 65534", "refuses 2 @ 65535 65534")
-        self.says(f"byte {full} 8 65535 0", "refuses 2 @ 65535 0")
+        self.says(f"byte {full} 8 131072 131072", "refuses 2 @ 131072 131072")
+        self.says(f"byte {full} 8 131072 0", "refuses 2 @ 131072 0")
 
     def test_read(self):
         self.says("read 0a0b0c0d 4 1 4 eeee", "gives 2 @ 3 4 | 0b0c")
@@ -216,6 +228,8 @@ class Range(Case):
         self.says("read 0a0b 4 1 6 eeeeeeeeee", "gives 5 @ 6 6 | 0bffffffff")
         self.says("read 0a0b 4 7 6 eeee", "gives 0 @ 7 6 | eeee")
         self.says("read - 8 0 0 -", "gives 0 @ 0 0 | -")
+        self.says("read - 8 131071 131072 eeee",
+                  "gives 1 @ 131072 131072 | ffee")
 
     def test_exact(self):
         self.says("exact 0a0b0c0d 4 1 4 eeeeee", "gives @ 4 4 | 0b0c0d")
@@ -235,8 +249,17 @@ class Range(Case):
         self.says("exact 0a 4 0 3 -", "refuses 14 @ 0 3 | -")
         self.says("write 0a 0 3 -", "refuses 14 @ 0 3 | 0a")
 
+    def test_record_out_of_bounds(self):
+        # A position or an end above 131,072, even where nothing is read.
+        for record in ("131073 0", "0 131074", "4294967295 4294967294"):
+            for line, rest in (("skip {} 0", ""), ("byte 0a 4 {}", ""),
+                               ("read 0a 4 {} ee", " | ee"),
+                               ("exact 0a 4 {} -", " | -"),
+                               ("write 0a {} -", " | 0a")):
+                self.says(line.format(record), f"refuses 14 @ {record}{rest}")
+
     def test_image_too_large(self):
-        large = "00" * 65_537
+        large = "00" * 131_073
         for line, rest in (
                 ("byte {} 4 0 2", " @ 0 2"),
                 ("read {} 4 0 2 ee", " @ 0 2 | ee"),
@@ -272,6 +295,25 @@ class Range(Case):
                   "refuses 7 @ 4 8 | 61626364")
         self.says("write 000000 2 8 6162", "refuses 7 @ 2 8 | 000000")
         self.says("write - 0 2 61", "refuses 7 @ 0 2 | -")
+
+    def test_write_at_the_top(self):
+        full = "ee" * 131_072
+        self.says(f"write {full} 131068 131072 61626364",
+                  "gives 4 @ 131072 131072 | " + full[:-8] + "61626364")
+        # The next position would be 131,073: 1, before 7 and after no data.
+        for some in (full, "0a", "-"):
+            self.says(f"write {some} 131071 131072 61",
+                      f"refuses 1 @ 131071 131072 | {some}")
+            self.says(f"write {some} 131071 131072 -",
+                      f"gives 0 @ 131071 131072 | {some}")
+        self.says("write 0a 131070 131072 61",
+                  "refuses 7 @ 131070 131072 | 0a")
+        # The word before is kept: an odd position stands for its own word.
+        self.says(f"write {full} 131069 131072 61626364",
+                  "refuses 1 @ 131071 131072 | " + full[:-8] + "6162eeee")
+        # Where the first word is refused with 7, the second is not met.
+        self.says("write 0a 131069 131072 61626364",
+                  "refuses 7 @ 131069 131072 | 0a")
 
 
 class Category(Case):
@@ -332,8 +374,10 @@ class Category(Case):
         self.says(f"inside {two[:-2]} 4 10", "gives 0")
         self.says(f"inside {two[:2 * 136]} 4 30", "gives 1")
         self.says(f"inside {two[:2 * 135]} 4 30", "gives 0")
-        # The length's high byte reads 0xFF: the range would end past its limit.
-        self.says(f"inside {two[:2 * 131]} 4 30", "refuses 1")
+        # The length's high byte reads 0xFF: the range ends at 130,696. Where
+        # both do, it would end past its limit.
+        self.says(f"inside {two[:2 * 131]} 4 30", "gives 0")
+        self.says(f"inside {two[:2 * 130]} 4 30", "refuses 1")
         self.says(f"inside {two[:2 * 131]} 4 10", "gives 0")
         self.says("inside - 4 10", "gives 0")
 
@@ -346,17 +390,44 @@ class Category(Case):
     def test_inside_refuses_as_the_search(self):
         self.says(f"inside {'00' * 129} 4 10", "refuses 1")
         self.says("inside - 4 11", "refuses 14")
-        self.says(f"inside {'00' * 65_537} 4 10", "refuses 14")
+        self.says(f"inside {'00' * 131_073} 4 10", "refuses 14")
         start = bytes(128).hex()
-        self.says(f"inside {start}{header(10, 32702).hex()} 4 10", "refuses 1")
+        self.says(f"inside {start}{header(10, 65470).hex()} 4 10", "gives 0")
+        self.says(f"inside {start}{header(10, 65471).hex()} 4 10", "refuses 1")
 
     def test_range_past_the_top(self):
         start = bytes(128).hex()
-        # 132 + 2 times 32,701 is 65,534.
-        self.says(f"category {start}{header(10, 32701).hex()} 4 10",
-                  "gives 132 65534")
-        self.says(f"category {start}{header(10, 32702).hex()} 4 10",
+        # 132 + 2 times 65,470 is 131,072.
+        self.says(f"category {start}{header(10, 65470).hex()} 4 10",
+                  "gives 132 131072")
+        self.says(f"category {start}{header(10, 65471).hex()} 4 10",
                   "refuses 1")
+
+    @staticmethod
+    def led_to(word, *parts):
+        """An image of 131,072 bytes; at a word of it stand these bytes, led
+        to by a category of number 1."""
+        start = bytes(128) + header(1, word - 0x42)
+        whole = start.ljust(2 * word, b"\0") + b"".join(parts)
+        return whole.ljust(131_072, b"\0").hex()
+
+    def test_last_words(self):
+        # Behind a header at word 65,533 the body stands at word 65,535.
+        some = self.led_to(65_533, header(10, 1), b"\1\0")
+        self.says(f"category {some} 4 10", "gives 131070 131072")
+        self.says(f"inside {some} 4 10", "gives 1")
+        self.says(f"category {self.led_to(65_533, header(10, 2))} 4 10",
+                  "refuses 1")
+        some = self.led_to(65_533, header(10, 0))
+        self.says(f"category {some} 4 10", "gives 131070 131070")
+        # At words 65,534 and 65,535 nothing is found: past them is absent.
+        some = self.led_to(65_534, header(10, 0))
+        self.says(f"category {some} 4 10", "absent")
+        self.says(f"category {some} 4 1", "refuses 14")
+        # A category that ends there is found, but not passed.
+        some = self.led_to(65_532, header(10, 2), b"\1\2\3\4")
+        self.says(f"category {some} 4 10", "gives 131068 131072")
+        self.says(f"category {some} 4 30", "refuses 1")
 
 
 class ReadOuts(Case):
@@ -444,7 +515,7 @@ class General(Case):
         for kind in ("physport", "physaddr"):
             self.says(f"{kind} - 4", "refuses 3")
             self.says(f"{kind} {'00' * 129} 4", "refuses 1")
-            self.says(f"{kind} {'00' * 65_537} 4", "refuses 14")
+            self.says(f"{kind} {'00' * 131_073} 4", "refuses 14")
 
     def test_longer_category(self):
         self.says(f"general {image((30, GENERAL + b'  '))} 4",
@@ -585,12 +656,12 @@ class Setup(Case):
 
     def test_image_too_large(self):
         for word in self.WORDS:
-            self.says(word.format("00" * 65_537), "refuses 14")
-            self.starts(word.format("00" * 128 + "ff" * 65_408), "gives")
+            self.says(word.format("00" * 131_073), "refuses 14")
+            self.starts(word.format("00" * 128 + "ff" * 130_944), "gives")
 
     def test_too_large_before_the_category(self):
         # The category alone would be refused with 1.
-        large = "00" * 129 + "ff" * 65_408
+        large = "00" * 129 + "ff" * 130_944
         self.says(f"clocks {large} 4", "refuses 14")
         self.says(f"clocks {large[:-2]} 4", "refuses 1")
 
@@ -744,9 +815,9 @@ class Setup(Case):
         start = bytes(128).hex()
         # Cut after the type: the length reads 0xFFFF.
         self.says(f"clocks {start}3c00 4", "refuses 1")
-        self.says(f"clocks {start}{header(60, 32702).hex()} 4", "refuses 1")
-        # One word less ends at 65,534: 2,725 records, all 0xFF.
-        self.says(f"clocks {start}{header(60, 32701).hex()} 4", "refuses 6")
+        self.says(f"clocks {start}{header(60, 65471).hex()} 4", "refuses 1")
+        # One word less ends at 131,072: 5,455 records, all 0xFF.
+        self.says(f"clocks {start}{header(60, 65470).hex()} 4", "refuses 6")
 
     def test_clocks_partial_record_ends_the_list(self):
         for length in range(2, 24, 2):
@@ -876,6 +947,23 @@ class Strings(Case):
         for index in (1, 7):
             self.says(f"string {self.AT_THE_TOP} 4 {index} ee",
                       "refuses 2 | ee")
+
+    def test_strings_at_the_end_of_the_largest_image(self):
+        # Bytes 131,066 to 131,071: count 2, `A`, `B`, which ends it.
+        some = Category.led_to(65_531, header(10, 3),
+                               bytes.fromhex("020141014200"))
+        self.says(f"category {some} 4 10", "gives 131066 131072")
+        self.says(f"string {some} 4 1 eeee", "gives 1 | 41ee")
+        self.says(f"string {some} 4 2 eeee", "gives 1 | 42ee")
+        self.says(f"string {some} 4 3 eeee", "absent | eeee")
+        some = Category.led_to(65_531, header(10, 3),
+                               bytes.fromhex("020141024243"))
+        self.says(f"string {some} 4 2 eeee", "gives 2 | 4243")
+        # A string that the end cuts, and a skip onto the end.
+        some = Category.led_to(65_531, header(10, 3),
+                               bytes.fromhex("030141034243"))
+        self.says(f"string {some} 4 2 eeeeee", "refuses 2 | eeeeee")
+        self.says(f"string {some} 4 3 eeeeee", "refuses 2 | eeeeee")
 
     def test_characters(self):
         body = bytes.fromhex("01 06 00 7f 80 ff 00 01".replace(" ", ""))
@@ -1466,14 +1554,15 @@ class Amended(Case):
                         "absent | eeee")
 
     def test_byte_past_the_end(self):
-        # It went by its position alone, and was refused at 65,535.
+        # It went by its position alone, and was refused at the highest.
         for pos, then in ((1, "gives 11 @ 2 2"), (2, "gives 12 @ 3 2"),
                           (3, "gives 255 @ 4 2"),
-                          (65534, "gives 255 @ 65535 2"),
-                          (65535, "refuses 1 @ 65535 2")):
+                          (65535, "gives 255 @ 65536 2"),
+                          (131071, "gives 255 @ 131072 2"),
+                          (131072, "refuses 1 @ 131072 2")):
             now = then if pos < 2 else f"refuses 2 @ {pos} 2"
             self.before("E4", f"byte 0a0b0c 4 {pos} 2", then, now)
-        for line in ("byte 0a 4 65535 3", f"byte {'00' * 65_537} 4 2 2"):
+        for line in ("byte 0a 4 65535 3", f"byte {'00' * 131_073} 4 2 2"):
             same = "refuses 14 @ " + " ".join(line.split(" ")[3:])
             self.before("E4", line, same, same)
 
@@ -1488,10 +1577,15 @@ class Amended(Case):
             empty = image((10, b""), (after, b""))
             self.before("E4", line.format(empty, index), then,
                         "refuses 2 | eeee")
-        # The count stood at 65,534, and the length would at 65,535.
+        # The count stood at 65,534, and the length, 0, at 65,535.
         line = "string " + Strings.AT_THE_TOP + " 4 {} ee"
-        self.before("E4", line.format(1), "refuses 1 | ee", "refuses 2 | ee")
+        self.before("E4", line.format(1), "gives 0 | ee", "refuses 2 | ee")
         self.before("E4", line.format(7), "absent | ee", "refuses 2 | ee")
+        # Before images of up to 131,072 bytes no byte was read there.
+        with amended.before("E4", "E7"):
+            self.says(line.format(1), "refuses 1 | ee")
+            self.says("byte 0a0b0c 4 65534 2", "gives 255 @ 65535 2")
+            self.says("byte 0a0b0c 4 65535 2", "refuses 1 @ 65535 2")
 
     def test_before_both(self):
         # Count 0 behind an empty category, and a length of 0.
@@ -1534,6 +1628,64 @@ class Amended(Case):
         self.before("E6", f"totalfrom {ALL_FOUR}", *["refuses 14"] * 2)
         self.before("E6", f"total {ALL_FOUR}", *["gives 300"] * 2)
 
+    def test_larger_images(self):
+        for length, then in ((65_536, "gives 0"), (65_537, "refuses 14"),
+                             (131_072, "refuses 14")):
+            self.before("E7", f"alias {'00' * length} 4", then, "gives 0")
+        line = f"alias {'00' * 131_073} 4"
+        self.before("E7", line, *["refuses 14"] * 2)
+        # A string has a room to show, which a line that can't be read has not.
+        line = f"string {'00' * 131_073} 4 1 ee"
+        self.before("E7", line, "refuses 14", "refuses 14 | ee")
+        self.before("E7", line.replace("00", "", 1), "refuses 14 | ee",
+                    "absent | ee")
+
+    def test_larger_ranges(self):
+        self.before("E7", "new 0 32767", *["gives 0 65534"] * 2)
+        self.before("E7", "new 0 32768", "refuses 1", "gives 0 65536")
+        self.before("E7", "startat 65535 2", "refuses 1",
+                    "gives 131070 131072")
+        self.before("E7", "startat 65535 4", *["refuses 1"] * 2)
+        self.before("E7", "skip 65535 65534 1",
+                    *["refuses 2 @ 65535 65534"] * 2)
+        # Position and end had 16 bits.
+        self.before("E7", "skip 65535 65536 0", "refuses 14",
+                    "gives @ 65535 65536")
+        self.before("E7", "skip 131073 0 0", "refuses 14",
+                    "refuses 14 @ 131073 0")
+        self.before("E7", "write 0a 131071 131072 61", "refuses 14",
+                    "refuses 1 @ 131071 131072 | 0a")
+
+    def test_larger_categories(self):
+        # 132 + 2 times 32,701 is 65,534.
+        start = bytes(128).hex()
+        for words, then, now in (
+                (32701, "gives 132 65534", "gives 132 65534"),
+                (32702, "refuses 1", "gives 132 65536"),
+                (65470, "refuses 1", "gives 132 131072"),
+                (65471, "refuses 1", "refuses 1")):
+            line = f"category {start}{header(10, words).hex()} 4 10"
+            self.before("E7", line, then, now)
+        # All that is read from one: past the image a count of 255 and a
+        # string of 255 bytes; General with undefined bits; clocks.
+        self.before("E7", f"string {start}{header(10, 32702).hex()} 4 1 ee",
+                    "refuses 1 | ee", "refuses 4 1 255 | ee")
+        self.before("E7", f"general {start}{header(30, 32702).hex()} 4",
+                    "refuses 1", "refuses 5")
+        self.before("E7", f"clocks {start}{header(60, 32702).hex()} 4",
+                    "refuses 1", "refuses 6")
+        # The search moves by 16-bit words, before and now.
+        for words, said in ((65469, "absent"), (65470, "refuses 1")):
+            line = f"category {start}{header(1, words).hex()} 4 10"
+            self.before("E7", line, said, said)
+
+    def test_longer_lines(self):
+        self.before("E7", "crc " + "00" * 131_073, "refuses 14",
+                    f"gives {crc(bytes(131_073))}")
+        zeros = "0" * (600_000 - len("new  4"))
+        self.before("E7", f"new {zeros} 4", *["gives 0 8"] * 2)
+        self.before("E7", f"new {zeros}0 4", "refuses 14", "gives 0 8")
+
     def test_names(self):
         for name in ("E3", "E99", "", "e1"):
             self.assertRaises(amended.NoAmendment, amended.switch_off, name)
@@ -1564,7 +1716,7 @@ class Amended(Case):
 class Refusals(Case):
     def test_each_number(self):
         for number, line in (
-                (1, "new 65535 0"),
+                (1, "new 65535 2"),
                 (2, "skip 0 0 0"),
                 (3, "general - 4"),
                 (4, f"string {image((10, bytes.fromhex('01014100')))} 4 1 -"),
@@ -1600,8 +1752,8 @@ class Lines(Case):
         self.says("crc ff", "gives 0")
 
     def test_hex_limit(self):
-        self.starts("crc " + "00" * 131_072, "gives")
-        self.unreadable("crc " + "00" * 131_073)
+        self.starts("crc " + "00" * 262_144, "gives")
+        self.unreadable("crc " + "00" * 262_145)
 
     def test_numbers(self):
         self.unreadable("new 65536 0", "new -1 0", "new +1 0", "new 1.0 0",
@@ -1614,6 +1766,9 @@ class Lines(Case):
                         + " 4")
 
     def test_widths(self):
+        self.unreadable("skip 4294967296 0 0", "skip 0 4294967296 0",
+                        "skip 0 2 65536", "byte 0a 4 0 4294967296",
+                        "new 0 65536", "startat 0 65536")
         self.unreadable(f"timeto {ALL_FOUR} 256", f"totalfrom {ALL_FOUR} 256",
                         f"linked {ALL_FOUR} 65536",
                         "string - 4 256 -", "push - 0 0 0 256 0 0 - 0",
@@ -1674,7 +1829,7 @@ class Lines(Case):
             self.unreadable(line + " 0", line.rsplit(" ", 1)[0])
 
     def test_the_longest_line(self):
-        zeros = "0" * (600_000 - len("new  4"))
+        zeros = "0" * (1_179_648 - len("new  4"))
         self.says(f"new {zeros} 4", "gives 0 8")
         self.says(f"new {zeros}0 4", "refuses 14")
 

@@ -2,12 +2,14 @@
 
 Each is written from the request's own words. It looks at the line and the
 image in it, at no answer. A line outside it must be answered as before; a
-line in it may be answered as before too.
+line in it may be answered as before too. `request` has the line's words by
+name, and the line itself.
 """
 
-from .cases import ports, ranges, strings
+from .cases import ports, ranges, sii, strings
 from .looked import (
-    active_links, empty_strings, entry_place, string_count, string_index,
+    active_links, empty_strings, ends_high, entry_place, string_count,
+    string_index,
 )
 
 CLASSES = {}
@@ -63,3 +65,29 @@ def _entry_linked_or_ports_dropped(request):
 def _delays_from_a_named_port(request):
     """The word that was added, and no other."""
     return request.kind == "totalfrom"
+
+
+# Before E7: an image's bytes, a range's end, a word of bytes, a line.
+IMAGE_WAS = 65_536
+END_WAS = 65_535
+BYTES_WERE = 131_072
+LINE_WAS = 600_000
+
+
+@may_change("E7", ranges, sii, strings)
+def _beyond_the_old_bounds(request):
+    """A larger image; a range that ends, a record that stands or ends, or a
+    category that ends past the old bound, with all that is read from it; and
+    what did not fit into a line."""
+    if request.kind == "new":
+        return 2 * (request.word + request.words) > END_WAS
+    if request.kind == "startat":
+        return 2 * (request.word + request.byte_length // 2) > END_WAS
+    if hasattr(request, "pos") and max(request.pos, request.end) > END_WAS:
+        return True
+    if (hasattr(request, "image") and request.kind != "spread"
+            and len(request.image) > IMAGE_WAS):
+        return True
+    return (ends_high(request) or len(request.line) > LINE_WAS
+            or any(isinstance(value, bytearray) and len(value) > BYTES_WERE
+                   for value in vars(request).values()))

@@ -112,7 +112,10 @@ class Change:
 
     def allows(self, request):
         taken = parsed(request)
-        return taken is not None and bool(self.class_.holds(taken))
+        if taken is None:
+            return False
+        taken.line = request
+        return bool(self.class_.holds(taken))
 
     def count(self, request, old, new):
         kind = kind_of(request)

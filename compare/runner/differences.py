@@ -9,8 +9,8 @@ from types import SimpleNamespace
 
 from .looked import (
     END_ABOVE, HIGHEST, IMAGE_LIMIT, MOVE_PASSES, PORT_AT, active_links,
-    active_times, empty_strings, entry_place, rises_before, searches,
-    skip_passes, string_count, string_index, word_at,
+    active_times, empty_strings, ends_high, entry_place, rises_before,
+    searches, skip_passes, string_count, string_index, word_at,
 )
 from .request import refused, shown, unchanged
 
@@ -57,7 +57,11 @@ def _range_end(request, oracle, ours):
         end = 2 * request.word + 2 * (request.byte_length // 2)
     else:
         return False
-    return end > HIGHEST and panics_where_we_refuse(request, oracle, ours, 1)
+    if end <= HIGHEST or oracle != "panics":
+        return False
+    if end <= IMAGE_LIMIT:
+        return ours == f"gives {2 * request.word} {end}"
+    return ours == refused(request, 1)
 
 
 @rule("D2")
@@ -77,8 +81,10 @@ def _search_passes(request, oracle, ours):
 
 @rule("D5")
 def _match_ends_above(request, oracle, ours):
-    return (END_ABOVE in searches(request)
-            and panics_where_we_refuse(request, oracle, ours, 1))
+    if END_ABOVE in searches(request):
+        return panics_where_we_refuse(request, oracle, ours, 1)
+    # What we read from one that ends lower, the Rust can't be asked.
+    return oracle == "panics" and ends_high(request)
 
 
 @rule("D6")
@@ -267,7 +273,7 @@ def silent(request):
     if kind in ("string", "name", "desc"):
         return empty_strings(request)
     if kind in ("skip", "byte", "read", "exact", "write"):
-        return request.end % 2 == 1
+        return request.end % 2 == 1 or max(request.pos, request.end) > HIGHEST
     if kind == "category":
         return request.number not in RUST_CATEGORIES
     if kind == "assign":

@@ -1,6 +1,6 @@
 """`run` and `morel` in rough hands: eight shells at once, every cut of the
-example, each status, an alias over a wrong checksum, a folder that can't be
-written, links, no kit.
+example, images of the most bytes, each status, an alias over a wrong checksum,
+a folder that can't be written, links, no kit.
 
 It takes target/bin/morel as `rt check morel` left it, so that nothing is
 proved here. Where `run` is to prove, a stand-in for `rt` does as if.
@@ -23,6 +23,7 @@ from .programs import ROOT, Missing, environment, kit, kit_words
 
 RUN = os.path.join(ROOT, "run")
 LOOM = os.path.join(EXAMPLES, "loom.sii")
+FULL = os.path.join(EXAMPLES, "loom-full.sii")
 SHELLS = 8
 NOBODY = 65_534
 
@@ -442,6 +443,70 @@ def marks_of_a_cut(length, most, said, status, whole):
     expect(status == (1 if changed else 0), f"cut at {length}: {status}")
 
 
+def categories(content):
+    """Header and body of each category of an image that ends with the last."""
+    at = 128
+    while at < len(content):
+        end = at + 4 + 2 * int.from_bytes(content[at + 2:at + 4], "little")
+        yield content[at:end]
+        at = end
+
+
+def asked(words, folder):
+    """What is printed, and the status, which the independent one has too."""
+    other = expected(words, folder)
+    said, told = told_by(kit_words(), words, folder)
+    expect((said, int(told)) == other,
+           f"{words}: not what the independent one says")
+    return said.decode("ascii"), int(told)
+
+
+def test_large():
+    """Images of the most bytes, each category once at their end; one that
+    would end a word later; an alias; one byte more."""
+    content = read(FULL)
+    most = len(content)
+    *others, own, last = categories(content)
+    others.append(last)
+    with tempfile.TemporaryDirectory() as folder:
+        path = os.path.join(folder, "large")
+
+        def large(command, image):
+            with open(path, "wb") as file:
+                file.write(image)
+            return asked(command.split(), folder)
+
+        small = labelled(told_by(kit_words(), ["sii", LOOM], folder)[0]
+                         .decode("ascii"))
+        for ending in others:
+            image = content[:128] + b"".join(
+                other for other in others if other is not ending)
+            said, status = large("sii large", image + own + ending)
+            lines = labelled(said)
+            differ = [lines.get(label) for label in small | lines
+                      if small.get(label) != lines.get(label)]
+            expect(differ == [f"sii bytes                   {most}"]
+                   and status == 0, f"category {ending[0]} ends it: {differ}")
+        place = most - len(last)
+        longer = bytearray(content)
+        longer[place + 2] += 1
+        said, status = large("sii large", longer)
+        expect("clock modes                 refused 1 Address\n" in said
+               and status == 1, f"one that would end past {most}")
+        said, status = large("alias large 0x1234", content)
+        after = read(path)
+        expect(status == 0 and after[8:10] == b"\x34\x12"
+               and after[:8] + after[10:14] + after[16:]
+               == content[:8] + content[10:14] + content[16:],
+               f"an alias in {most} bytes: {said}")
+        for command in ("sii large", "alias large 1"):
+            said, status = large(command, content + b"\xff")
+            expect(said.endswith(f"bytes at most               {most}\n")
+                   and status == 2 and read(path) == content + b"\xff",
+                   f"{command}, of {most + 1} bytes: {said}")
+    return f"{len(others)} categories end at byte {most}"
+
+
 def test_start():
     """What `run` takes where nothing changed, less what the program takes, in
     time of the processor: other work on the machine doesn't count."""
@@ -465,7 +530,7 @@ def test_start():
 TESTS = (test_shells_at_once, test_shells_while_proving, test_without_flock,
          test_progress, test_failed_proof, test_folder_not_writable,
          test_links, test_no_kit, test_statuses, test_alias,
-         test_program_alone, test_cuts, test_start)
+         test_program_alone, test_cuts, test_large, test_start)
 
 
 def main():

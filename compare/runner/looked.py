@@ -1,8 +1,10 @@
 """What a request's image and ports hold, so far as a rule of differences.py or
 a class of allowed.py looks at it. Written apart from the three programs."""
 
+# The Rust counts words and bytes in 16 bits; we count words so, and bytes up
+# to the end of the largest image.
 HIGHEST = 65_535
-IMAGE_LIMIT = 65_536
+IMAGE_LIMIT = 131_072
 
 
 def byte_at(image, place):
@@ -48,23 +50,31 @@ def rises_before(request):
 
 
 MOVE_PASSES = "a move passes 65,535"
-END_ABOVE = "the range ends above 65,535"
+END_ABOVE = "the range ends above 131,072"
 ABSENT = "absent"
 
-SOUGHT = {"general": (30,), "sms": (41,), "usages": (41,), "fmmus": (40,),
-          "fmmuex": (42,),
-          "string": (10,), "name": (30, 10), "desc": (30, 10)}
+SOUGHT = {"general": (30,), "physport": (30,), "physaddr": (30,),
+          "sms": (41,), "usages": (41,), "fmmus": (40,), "fmmuex": (42,),
+          "clocks": (60,), "string": (10,), "name": (30, 10),
+          "desc": (30, 10)}
 
 
 def searches(request):
     """How the category searches of this request come out."""
-    if request.kind in ("category", "pdos"):
+    if request.kind in ("category", "inside", "pdos"):
         sought = (request.number,)
     else:
         sought = SOUGHT.get(request.kind, ())
     if not sought or len(request.image) > IMAGE_LIMIT:
         return ()
     return [search(request.image, number) for number in sought]
+
+
+def ends_high(request):
+    """Whether one of them finds a category that ends past the Rust's 16
+    bits."""
+    return any(isinstance(found, tuple) and found[1] > HIGHEST
+               for found in searches(request))
 
 
 def search(image, number):
@@ -79,7 +89,7 @@ def search(image, number):
             return ABSENT
         if kind == number:
             end = 2 * (word + length)
-            return (2 * word, end) if end <= HIGHEST else END_ABOVE
+            return (2 * word, end) if end <= IMAGE_LIMIT else END_ABOVE
         if kind == 0xFFFF:
             return ABSENT
         word += length
@@ -115,7 +125,7 @@ def empty_strings(request):
 def skip_passes(request):
     """Whether a skip of that search passes 65,535."""
     found = strings_at(request)
-    if found is None:
+    if found is None or found[1] > HIGHEST:
         return False
     # The count, then index - 1 lengths to skip.
     position, end = found[0] + 1, found[1]

@@ -16,11 +16,12 @@ from .request import answer_class, kind_of
 SEED = "replay"
 MADE = 60_000
 LINE_MOST = 1_500
-BYTES_MOST = 1_400_000
+BYTES_MOST = 1_700_000
 GIVES_A_TURN = 4
 
 # Long lines are dear. These show that an image can be as long as it may.
-LONG = (b"alias " + b"5a" * 65_536 + b" 8", b"alias " + b"5a" * 65_537 + b" 8")
+LONG = (b"alias " + b"5a" * 131_072 + b" 8",
+        b"alias " + b"5a" * 131_073 + b" 8")
 
 # It has no line end: a last line counts without one.
 LAST = b"crc 313233343536373839"

@@ -29,4 +29,6 @@ pub use frame::{
     PDU_OVERHEAD_BYTES,
 };
 pub use refusal::Refusal;
-pub use sii::{crc, set_station_alias, CategoryType, DefaultMailbox, SiiGeneral, SubDeviceEeprom, SubDeviceIdentity};
+pub use sii::{
+    crc, set_station_alias, CategoryType, DefaultMailbox, SiiGeneral, SubDeviceEeprom, SubDeviceIdentity, IMAGE_MOST,
+};

@@ -3,6 +3,9 @@ use crate::refusal::{done, found, Refusal};
 use crate::sys;
 use std::ops::Range;
 
+/// The most bytes that an EEPROM image has.
+pub const IMAGE_MOST: usize = 131_072;
+
 /// The CRC-8 of the SII: polynomial 0x07, start 0xFF.
 ///
 /// ```
@@ -101,15 +104,15 @@ pub struct SiiGeneral {
     pub physical_memory_addr: u16,
 }
 
-/// An EEPROM image that is lent. Bytes past its end read as 0xFF; one of more than 65,536 bytes is [`Refusal::BadArgument`] in every call.
+/// An EEPROM image that is lent. Bytes past its end read as 0xFF; one of more than [`IMAGE_MOST`] bytes is [`Refusal::BadArgument`] in every call.
 ///
 /// ```
-/// use morelbarrel::{Refusal, SubDeviceEeprom};
+/// use morelbarrel::{Refusal, SubDeviceEeprom, IMAGE_MOST};
 ///
 /// let image = [0u8; 64];
 /// let eeprom = SubDeviceEeprom::new(&image);
 /// assert_eq!(eeprom.station_alias()?, 0);
-/// assert_eq!(SubDeviceEeprom::new(&[0; 65_537]).size(), Err(Refusal::BadArgument));
+/// assert_eq!(SubDeviceEeprom::new(&[0; IMAGE_MOST + 1]).size(), Err(Refusal::BadArgument));
 /// # Ok::<(), Refusal>(())
 /// ```
 #[derive(Clone, Copy, Debug)]
@@ -158,16 +161,16 @@ impl<'a> SubDeviceEeprom<'a> {
         })
     }
 
-    /// Where the first category of this type lies, in bytes.
-    pub fn category(&self, category: CategoryType) -> Result<Option<Range<u16>>, Refusal> {
+    /// Where the first category of this type lies, in bytes. One that would end past [`IMAGE_MOST`] is [`Refusal::Address`].
+    pub fn category(&self, category: CategoryType) -> Result<Option<Range<u32>>, Refusal> {
         self.category_numbered(category as u16)
     }
 
     /// The same by the type's number; one that may not be sought is [`Refusal::BadArgument`].
-    pub fn category_numbered(&self, number: u16) -> Result<Option<Range<u16>>, Refusal> {
+    pub fn category_numbered(&self, number: u16) -> Result<Option<Range<u32>>, Refusal> {
         let mut row = [0; 2];
         let there = found(sys::category(self.image, number, &mut row), &row)?;
-        Ok(there.map(|()| row[0] as u16..row[1] as u16))
+        Ok(there.map(|()| row[0] as u32..row[1] as u32))
     }
 
     /// Whether all that the search for this category looks at, its headers and the end mark, and the category that it finds lie in the image.

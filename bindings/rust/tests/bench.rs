@@ -13,7 +13,7 @@ fn image() -> Vec<u8> {
     image
 }
 
-const TOO_LONG: &[u8] = &[0; 65_537];
+const TOO_LONG: &[u8] = &[0; IMAGE_MOST + 1];
 
 #[test]
 fn checksum() {
@@ -84,6 +84,37 @@ fn categories() {
     assert_eq!(SubDeviceEeprom::new(&image[..140]).general(), Err(Refusal::NoCategory));
     image[149] = 0x40;
     assert_eq!(SubDeviceEeprom::new(&image).general(), Err(Refusal::Decode));
+}
+
+/// An image of the most bytes: a category of the maker's own, then General, of so many words, which ends with the image where they are nine.
+fn full(words: u8) -> Vec<u8> {
+    let mut image = vec![0xFF; IMAGE_MOST];
+    let header = IMAGE_MOST - 22;
+    let own = ((header - 132) / 2) as u16;
+    image[128..132].copy_from_slice(&[0, 8, own.to_le_bytes()[0], own.to_le_bytes()[1]]);
+    image[header..header + 4].copy_from_slice(&[30, 0, words, 0]);
+    let general = [0, 0, 1, 2, 0, 0x0F, 1, 0, 0, 0, 0, 0x03, 0xD4, 0xFE, 0x11, 0x43, 0x00, 0x10];
+    image[header + 4..].copy_from_slice(&general);
+    image
+}
+
+#[test]
+fn full_images() {
+    let most = IMAGE_MOST as u32;
+    let mut image = full(9);
+    let eeprom = SubDeviceEeprom::new(&image);
+    assert_eq!(eeprom.category(CategoryType::General), Ok(Some(most - 18..most)));
+    assert_eq!(eeprom.category_inside(CategoryType::General), Ok(true));
+    assert_eq!(eeprom.general().unwrap().ebus_current, -300);
+    assert_eq!(set_station_alias(&mut image, 0x1234), Ok(()));
+    assert_eq!(SubDeviceEeprom::new(&image).station_alias(), Ok(0x1234));
+    assert_eq!(SubDeviceEeprom::new(&image[..IMAGE_MOST - 1]).category_inside(CategoryType::General), Ok(false));
+    image.push(0xFF);
+    assert_eq!(SubDeviceEeprom::new(&image).category(CategoryType::General), Err(Refusal::BadArgument));
+    assert_eq!(set_station_alias(&mut image, 7), Err(Refusal::BadArgument));
+    let image = full(10);
+    assert_eq!(SubDeviceEeprom::new(&image).category(CategoryType::General), Err(Refusal::Address));
+    assert_eq!(SubDeviceEeprom::new(&image).category(CategoryType::SyncManager), Err(Refusal::Address));
 }
 
 #[test]

@@ -33,12 +33,13 @@ fn word(kind: char, text: &str) -> Option<Word> {
     fits.then_some(Word::Number(number))
 }
 
+/// Up to twice the bytes of an image.
 fn bytes(text: &str) -> Option<Vec<u8>> {
     let digit = |c: u8| b"0123456789abcdef".iter().position(|&d| d == c);
     match text.as_bytes() {
         b"-" => Some(vec![]),
         [] => None,
-        hex if hex.len() % 2 == 1 || hex.len() > 262_144 => None,
+        hex if hex.len() % 2 == 1 || hex.len() > 4 * IMAGE_MOST => None,
         hex => hex.chunks(2).map(|pair| Some((16 * digit(pair[0])? + digit(pair[1])?) as u8)).collect(),
     }
 }

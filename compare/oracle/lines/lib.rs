@@ -2,7 +2,8 @@
 
 use std::fmt::Write;
 
-const BYTES_MOST: usize = 131_072;
+const BYTES_MOST: usize = 262_144;
+const LINE_MOST: usize = 1_179_648;
 
 /// The line can't be read.
 pub struct Unreadable;
@@ -11,8 +12,9 @@ pub struct Unreadable;
 pub struct Words<'a>(Option<&'a [u8]>);
 
 impl<'a> Words<'a> {
+    /// Of a line that is too long there is no word to be had.
     pub fn new(line: &'a [u8]) -> Self {
-        Self(Some(line))
+        Self((line.len() <= LINE_MOST).then_some(line))
     }
 
     pub fn word(&mut self) -> Result<&'a [u8], Unreadable> {

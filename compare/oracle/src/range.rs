@@ -20,17 +20,19 @@ pub fn image(words: &mut Words) -> Result<Image, Off> {
     }
 }
 
-/// `POS END`. Every end that the Rust makes is twice a number of words, so an odd one has no answer.
-struct Record(u16, u16);
+/// `POS END`. Every end that the Rust makes is twice a number of words, so an odd one has no answer; nor has a number of more than the Rust's 16 bits.
+struct Record(u32, u32);
 
 impl Record {
     fn read(words: &mut Words) -> Result<Self, Off> {
-        Ok(Self(words.u16()?, words.u16()?))
+        Ok(Self(words.u32()?, words.u32()?))
     }
 
     fn over(self, image: Image) -> Result<EepromRange<Image>, Off> {
-        let Record(pos, end) = self;
-        if end % 2 == 0 { Ok(range_at(image, pos, end)) } else { Err(Off::None) }
+        match (u16::try_from(self.0), u16::try_from(self.1)) {
+            (Ok(pos), Ok(end)) if end % 2 == 0 => Ok(range_at(image, pos, end)),
+            _ => Err(Off::None),
+        }
     }
 
     /// Whether a byte is left to read. Past the end the original reads on, and since request E4 it is not asked there.

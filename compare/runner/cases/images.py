@@ -197,10 +197,10 @@ def jumping(rng):
 
 
 def ending_high(rng):
-    """A category that is found and ends near byte 65,535."""
+    """A category that is found and ends near byte 65,535 or 131,072."""
     before = category(0, bytes(2 * rng.randint(0, 200)))
     start = 2 * 0x40 + len(before) + 4
-    end = near(rng, (65_534, 65_536, 65_538), most=65_600)
+    end = near(rng, (65_534, 65_536, 131_070, 131_072, 131_074), most=131_100)
     kind = rng.choice((10, 10, 10, *NAMED))
     payload = PAYLOADS.get(kind, anything)(rng)
     if kind == 10 and rng.random() < 0.7:
@@ -211,14 +211,16 @@ def ending_high(rng):
 
 
 def tall(rng):
-    """As long as an image can be, with a category in its last words."""
-    length = rng.choice((65_530, 65_534, 65_535, 65_536, 65_536, 65_537))
-    target = rng.randint(32_740, 32_768)
+    """As long as an image can be, or as the Rust's 16 bits reach, with a
+    category in its last words."""
+    top = rng.choice((32_768, 65_536, 65_536))
+    length = 2 * top - rng.choice((6, 2, 1, 0, 0, -1))
+    target = rng.randint(top - 28, min(top, 65_535))
     first = category(0, b"", target - 0x42)
     last = some_category(rng)
     if rng.random() < 0.6:
         payload = bytes([2, 0]) + strings(rng)
-        last = category(10, payload, near(rng, (32_766 - target, 0)))
+        last = category(10, payload, near(rng, (top - 2 - target, 0)))
     data = bytearray(head(rng) + first)
     data += bytes(2 * target - len(data)) + last
     data += rng.randbytes(length)[:max(0, length - len(data))]

@@ -4,7 +4,8 @@ from ..request import WORDS, line
 from . import frames, ports, ranges, setup, sii, spread, strings
 
 OTHERS = (ranges, sii, strings, ports, frames, spread, setup)
-PAIRS_LIMIT = 131_072
+PAIRS_LIMIT = 262_144
+LINE_LIMIT = 1_179_648
 
 WRONG = (b"", b"-", b"--", b"+1", b"-1", b"1x", b"0x1", b"1.0", b"1_0", b"2",
          b"3", b"5", b"04", b"08", b"0", b"00000000000000000000001", b"255",
@@ -71,6 +72,8 @@ def long_words():
         yield b"crc " + b"00" * pairs
         yield b"alias " + b"00" * pairs + b" 4"
         yield b"frame 0010" + b"00" * (pairs - 2)
+    for length in (LINE_LIMIT, LINE_LIMIT + 1):
+        yield b"new " + b"7 1".rjust(length - 4, b"0")
     yield b"new " + b"0" * 3_000 + b"7 1"
     yield b"x" * 100_000
 

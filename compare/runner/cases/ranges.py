@@ -1,12 +1,17 @@
 """Checksum and EEPROM range."""
 
+from itertools import product
+
 from ..request import line
 from . import images
-from .tools import CHUNKS, U16, asked, around, near, number, ramp
+from .tools import CHUNKS, U16, U32, asked, around, near, number, ramp
 
 TOP = around(65_534)
 WORDS = around(0, 2, 64, 32_767, 65_535)
 SKIPS = around(0, 3, 255, 65_280, 65_534)
+# Past 16 bits, at the highest position and end, and above it.
+MOST = 131_072
+HIGH = (*around(65_536, MOST, most=U32), MOST + 2, U32 - 1)
 
 
 def small():
@@ -19,6 +24,7 @@ def small():
     yield from single_bytes()
     yield from reads()
     yield from writes()
+    yield from high()
 
 
 def checksums():
@@ -78,6 +84,17 @@ def writes():
             yield line("write", b"\x01\x02", pos, end, b"\xaa")
 
 
+def high():
+    for pos, end in product((0, *HIGH), repeat=2):
+        for skip in (0, 1, 2, U16):
+            yield line("skip", pos, end, skip)
+        yield line("byte", b"", 4, pos, end)
+        for count in (0, 1, 2, 3):
+            yield line("read", b"\x01", 8, pos, end, b"\xee" * count)
+            yield line("exact", b"\x01", 4, pos, end, b"\xee" * count)
+            yield line("write", b"\x01\x02", pos, end, ramp(count))
+
+
 def some(rng):
     """A range is made over an image and used, call by call."""
     yield line("crc", rng.randbytes(rng.randint(0, 40)))
@@ -87,10 +104,11 @@ def some(rng):
         word, count = rng.randint(0, len(image) // 2 + 4), rng.randint(0, 40)
     yield line("new", word, count)
     yield line("startat", word, count)
-    pos, end = min(2 * word, U16), min(2 * (word + count), U16 - 1)
+    pos, end = 2 * word, min(2 * (word + count), MOST)
     for _ in range(rng.randint(3, 10)):
         if rng.random() < 0.04:
-            pos, end = number(rng), number(rng)
+            most = rng.choice((U16, U16, MOST + 2, U32))
+            pos, end = number(rng, most), number(rng, most)
         request, (record, slices) = step(rng, image, pos, end)
         yield request
         if record:
@@ -103,14 +121,15 @@ def any_image(rng):
     pick = rng.random()
     if pick < 0.85:
         return rng.randbytes(rng.randint(0, 60))
-    if pick < 0.998:
+    if pick < 0.999:
         return images.built(rng)
-    return rng.randbytes(near(rng, (65_535, 65_536), most=70_000))
+    return rng.randbytes(near(rng, (65_536, MOST, MOST), most=U32))
 
 
 def step(rng, image, pos, end):
     chunk = rng.choice(CHUNKS)
-    length = rng.choice((rng.randint(0, 20), near(rng, (max(0, end - pos),))))
+    left = min(max(0, end - pos), U16)
+    length = rng.choice((rng.randint(0, 20), near(rng, (left,))))
     kind = rng.choice(("skip", "byte", "read", "exact", "write"))
     if kind == "skip":
         return asked(kind, pos, end, length)

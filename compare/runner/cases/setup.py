@@ -60,14 +60,14 @@ def clocks():
         for there in (0, 5, 24, 30):
             data = image(category(CLOCK, ramp(there), length), end=b"")
             yield line("clocks", data, 8)
-    for length in around(32_767 - 0x42, 32_768 - 0x42, 65_535 - 0x42, 65_535):
+    for length in around(32_767 - 0x42, 32_768 - 0x42, 65_536 - 0x42, 65_535):
         for kind in (CLOCK, 0, 0xFFFF):
             yield line("clocks", image(category(kind, b"", length), end=b""), 4)
 
 
 def largest():
     """As large as an image may be, and a byte more."""
-    for length in (65_536, 65_537):
+    for length in (131_072, 131_073):
         for kind in READ_OUTS:
             yield line(kind, bytes(length), 4)
 

@@ -14,6 +14,7 @@ HOLDS = {"general": 30, "physport": 30, "physaddr": 30, "fmmus": 40,
 def small():
     yield from heads()
     yield from largest()
+    yield from last_words()
     yield from searches()
     yield from insides()
     yield from lists()
@@ -21,10 +22,15 @@ def small():
 
 
 def largest():
-    """As large as an image may be, and a byte more; in every call."""
-    for length in (65_536, 65_537):
-        data = bytes(128) + b"\x29\x00" + b"\xff\x00" * ((length - 130) // 2)
-        data += bytes(length - len(data))
+    """As large as an image may be, and a byte more; in every call. In a few
+    calls a byte less, and as large as it could be before."""
+    for length in (65_536, 65_537, 131_071):
+        data = filled(length)
+        yield line("alias", data, 4)
+        yield line("category", data, 8, 41)
+        yield line("string", data, 4, 1, b"\xa5")
+    for length in (131_072, 131_073):
+        data = filled(length)
         for kind in READ_OUTS:
             yield line(kind, data, 4)
         yield line("category", data, 8, 41)
@@ -36,11 +42,34 @@ def largest():
         yield line("name", data, 4, b"\xa5")
         yield line("desc", data, 4, b"\xa5")
         yield line("setalias", data, 1)
-        yield line("byte", data, 8, 65_533, 65_534)
-        yield line("byte", data, 8, 65_534, 65_534)
-        yield line("read", data, 4, 65_530, 65_534, b"\xee" * 5)
-        yield line("exact", data, 4, 65_530, 65_534, b"\xee" * 5)
-        yield line("write", data, 65_532, 65_534, b"\xaa\xbb\xcc")
+        yield line("byte", data, 8, 131_071, 131_072)
+        yield line("byte", data, 8, 131_072, 131_072)
+        yield line("read", data, 4, 131_068, 131_072, b"\xee" * 5)
+        yield line("exact", data, 4, 131_068, 131_072, b"\xee" * 5)
+        yield line("exact", data, 4, 65_530, 65_534, b"\xee" * 4)
+        yield line("write", data, 131_070, 131_072, b"\xaa\xbb\xcc")
+        yield line("write", data, 131_069, 131_072, b"\xaa\xbb\xcc")
+
+
+def filled(length):
+    """From byte 128 to the end one category behind another."""
+    data = bytes(128) + b"\x29\x00" + b"\xff\x00" * ((length - 130) // 2)
+    return data + bytes(length - len(data))
+
+
+def last_words():
+    """A header at the last words of the largest image, and a category that
+    ends with it."""
+    for place in (65_531, 65_532, 65_533, 65_534):
+        for words in around(65_534 - place, most=4):
+            data = image(category(1, b"", place - 0x42), end=b"")
+            data = (data.ljust(2 * place, b"\0")
+                    + category(10, b"\1\1A\0\0\0", words))
+            data = data.ljust(131_072, b"\0")[:131_072]
+            yield line("category", data, 4, 10)
+            yield line("string", data, 8, 1, b"\xa5\xa5")
+        yield line("category", data, 8, 30)
+        yield line("inside", data, 8, 10)
 
 
 def heads():
@@ -80,9 +109,10 @@ def searches():
 
 
 def long_categories():
-    """From word 0x42 on: past byte 65,535, past word 65,535."""
+    """From word 0x42 on: past byte 65,535, past word 65,535 and byte
+    131,072."""
     edges = around(0, 32_767 - 0x42, 32_768 - 0x42, 65_535 - 0x42 - 2,
-                   65_535 - 0x42, 65_535)
+                   65_535 - 0x42, 65_536 - 0x42, 65_535)
     for length in edges:
         for kind in (10, 0, 0xFFFF):
             data = image(category(kind, b"", length), end=b"")
@@ -111,7 +141,7 @@ def insides():
         for length in range(len(data) - 8, len(data) + 1):
             yield line("inside", data[:length], 4, 10)
             yield line("inside", data[:length], 8, 30)
-    for length in around(0, 32_767 - 0x42, 65_535 - 0x42, 65_535):
+    for length in around(0, 32_767 - 0x42, 65_536 - 0x42, 65_535):
         for kind in (10, 0, 0xFFFF):
             data = image(category(kind, b"", length), end=b"")
             yield line("inside", data, 8, 10)
@@ -200,7 +230,7 @@ def some(rng):
     yield line("inside", data[:cut], rng.choice(CHUNKS), sought(rng))
     yield line("pdos", data, rng.choice(CHUNKS), direction)
     if not tall or rng.random() < 0.2:
-        yield line("setalias", data[:rng.choice((14, 15, 16, 40, 70_000))],
+        yield line("setalias", data[:rng.choice((14, 15, 16, 40, 140_000))],
                    number(rng))
 
 

@@ -9,7 +9,7 @@ use Rattle.refusal.specs.Said.{Said, gives, absent, refuses, on2, on3}
 use Rattle.refusal.proofs.Tests.{both}
 use Rattle.wire.specs.Bytes.{byteAt, span, overlay}
 use Rattle.crc.proofs.Bench.{crc-zeros, crc-digits}
-use Rattle.eeprom.specs.Image.{within, fine}
+use Rattle.eeprom.specs.Image.{within, inBounds, fine}
 use Rattle.eeprom.specs.Range.{newSaid, byteIn, byteSaid, skipIn, skipSaid, exactSaid}
 use Rattle.category.specs.Category.{among, counted, decided, stepped, searchOver, searchFrom, searched, categorySaid}
 use Rattle.strings.specs.Strings.{stringPast, passedOne, passed, onExact, fitted, stringHere, stringBehind, stringIn, soughtAt, ascii, shown, textSaid, fits, bounded, textFor, stringSaid}
@@ -64,7 +64,7 @@ with-sums : (a b : ℕ) → a ≡ 0x30 → b ≡ 0xFB
 unfolding
     agrees same sameList cases emptiesThenStrings twoStrings four three built
     on2 on3 byteAt span overlay
-    within fine newSaid byteIn byteSaid skipIn skipSaid exactSaid
+    within inBounds fine newSaid byteIn byteSaid skipIn skipSaid exactSaid
     among counted decided stepped searchOver searchFrom searched categorySaid
     stringPast passedOne passed onExact fitted stringHere stringBehind stringIn soughtAt ascii shown textSaid fits bounded textFor stringSaid
     those folded activePorts fresh timesSet largest smallest breadth delaySaid total totalSaid gap gaps sumSaid intermediateSaid

@@ -6,7 +6,7 @@ use Rattle.refusal.specs.Said.{gives, absent, refuses}
 use Rattle.wire.specs.Bytes.{byteAt}
 use Rattle.eeprom.specs.Image.{within}
 use Rattle.eeprom.specs.Range.{newSaid}
-use Rattle.category.specs.Category.{among, counted, decided, stepped, searchOver, searchFrom, searched, categorySaid}
+use Rattle.category.specs.Category.{among, counted, done, decided, stepped, searchOver, searchFrom, searched, categorySaid}
 use Rattle.category.specs.Inside.{headerEnd, lastOver, lastFrom, lastHeader, endInside, insideSaid}
 
 pub record Cases : Type 0 where
@@ -14,10 +14,14 @@ pub record Cases : Type 0 where
   pub cut : categorySaid (replicate 129 0) 10 ≡ refuses 1 []
   pub none : categorySaid (replicate 128 0) 10 ≡ absent
   pub unsought : categorySaid [] 20 ≡ refuses 14 []
+  -- a category whose body ends at byte 131,072 is found, one that would end a word later is refused; a header in the last two words is not followed
+  pub highest : decided 60 3 60 65533 0 ≡ done (gives (131066 ∷ 131072 ∷ []))
+  pub too-high : decided 60 4 60 65533 0 ≡ done (refuses 1 [])
+  pub last-words : decided 60 0 60 65536 1 ≡ done absent
 
 pub cases : Cases
 unfolding within newSaid among counted decided stepped searchOver searchFrom searched categorySaid byteAt
-cases = record { cut = refl; none = refl; unsought = refl }
+cases = record { cut = refl; none = refl; unsought = refl; highest = refl; too-high = refl; last-words = refl }
 
 pub record Insides : Type 0 where
   -- a mark read past the end is none, nor one of which half is read there; an image may end with the mark

@@ -8,9 +8,9 @@ use mathlib.Core.Bool.{Bool, true, false, false≢true}
 use borrow.Author.Tests.{leb-true, leb-false}
 use lib.Dec.{leb}
 use Rattle.refusal.specs.Said.{Said, gives, absent, refuses, pick}
-use Rattle.eeprom.specs.Image.{endMost, within}
+use Rattle.eeprom.specs.Image.{imageMost, within, fine}
 use Rattle.eeprom.specs.Range.{newSaid}
-use Rattle.eeprom.proofs.Laws.{new-gives, new-refuses}
+use Rattle.eeprom.proofs.Laws.{bounds-is, fine-is, new-gives, new-refuses}
 use Rattle.category.specs.Layout.{headerWords, typeAt, lengthAt, endMark}
 use Rattle.category.specs.Category.{numbers, among, done, stepped, searched, categorySaid}
 use Rattle.category.specs.First.{Followed, FirstOf, NoneOf, NoFurther, past, empty, mark, LeadsPast, TooFar, over, above}
@@ -64,10 +64,10 @@ module _ (image : List ℕ) (number : ℕ) where
       leads-past f why =
           record { word = lastHeader image number; before = search-ends image number .before; header = search-ends image number .header; followed = f; why = why }
 
-      ranged : (t : Bool) (s : Said) (v n : ℕ) → v ≡ lastHeader image number → n ≡ lengthAt image (lastHeader image number) → leb (2 * (v + 2) + 2 * n) endMost ≡ t →
+      ranged : (t : Bool) (s : Said) (v n : ℕ) → v ≡ lastHeader image number → n ≡ lengthAt image (lastHeader image number) → leb (2 * (v + 2) + 2 * n) imageMost ≡ t →
           Followed image (lastHeader image number) (search-ends image number .before) → typeAt image (lastHeader image number) ≡ number → s ≡ newSaid (v + 2) n → Answer image number s
       ranged true s v n p q h f t r =
-          let k = leb-true (2 * (v + 2) + 2 * n) endMost h in
+          let k = leb-true (2 * (v + 2) + 2 * n) imageMost h in
           found (2 * (v + 2)) (2 * (v + 2) + 2 * n)
           (record {
             word = lastHeader image number;
@@ -81,7 +81,7 @@ module _ (image : List ℕ) (number : ℕ) where
           })
           (r ∙ new-gives (v + 2) n k)
       ranged false s v n p q h f t r =
-          let k = leb-false (2 * (v + 2) + 2 * n) endMost h in
+          let k = leb-false (2 * (v + 2) + 2 * n) imageMost h in
           too-far (leads-past f (above t (rw (← q, ← p) k))) (r ∙ new-refuses (v + 2) n k)
 
       go : (s : Said) → Why image number (lastHeader image number) (search-ends image number .before) s → Answer image number s
@@ -170,10 +170,20 @@ first-last image number pos end f = first-ends image number pos end f .1
 pub record Readable (image : List ℕ) (end : ℕ) : Type 0 where
   pub short : within image ≡ true
   pub even : end % 2 ≡ 0
-  pub last : end ≤ endMost
+  pub last : end ≤ imageMost
 
 pub category-readable : (image : List ℕ) (number pos end : ℕ) → categorySaid image number ≡ gives (pos ∷ end ∷ []) → Readable image end
 category-readable image number pos end p =
     let a = says-asked image number _ p (λ q. (let z : _≡_ {A = ℕ} 0 1 = cc in omega arith)) in
     let f = found-first image number pos end p in
     record { short = a .short; even = omega (arith, f .starts, f .ends); last = f .bounded }
+
+-- .. and has, wherever the range stands up to its end
+pub readable-at : (image : List ℕ) (pos end : ℕ) → Readable image end → pos ≤ end → fine image pos end ≡ true
+readable-at image pos end r h = fine-is image pos end (r .short) (bounds-is pos end (omega (arith, r .last)) (r .last) (r .even))
+
+-- a range that is found lies within the limit, as the search's answer tells it
+pub found-within : (image : List ℕ) (number pos end : ℕ) → gives (pos ∷ end ∷ []) ≡ categorySaid image number → (pos ≤ imageMost) × (end ≤ imageMost)
+found-within image number pos end p =
+    let f = found-first image number pos end (sym p) in
+    (omega (arith, f .ends, f .bounded), f .bounded)

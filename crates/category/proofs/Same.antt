@@ -9,8 +9,9 @@ use lib.ListN.{length, getD}
 use lib.Dec.{ltb, leb, eqb}
 use Rattle.refusal.specs.Said.{Said, gives, absent, refuses, pick, on2}
 use Rattle.wire.specs.Bytes.{byteAt}
-use Rattle.eeprom.specs.Image.{endMost, within}
+use Rattle.eeprom.specs.Image.{within}
 use Rattle.eeprom.specs.Range.{newSaid}
+use Rattle.eeprom.proofs.Laws.{new-cases}
 use Rattle.category.specs.Layout.{firstHeader, typeAt, lengthAt, endMark, wordMost}
 use Rattle.category.specs.Category.{emptyMost, counted, among, numbers, Stepped, done, next, decided, stepped, follow, searchOver, searchFrom, searched, categorySaid}
 
@@ -31,12 +32,7 @@ BehindStep (done s) = Behind s
 BehindStep (next w e) = firstHeader ≤ w
 
 new-behind : (w n : ℕ) → firstHeader ≤ w → Behind (newSaid w n)
-unfolding newSaid
-new-behind w n h = go (leb (2 * w + 2 * n) endMost)
-  where
-    go : (t : Bool) → Behind (pick t (gives ((2 * w) ∷ (2 * w + 2 * n) ∷ [])) (refuses 1 []))
-    go true = omega arith
-    go false = tt
+new-behind w n h = new-cases w n Behind (omega arith) tt
 
 step-behind : (image : List ℕ) (number w e : ℕ) → firstHeader ≤ w → BehindStep (stepped image number w e)
 unfolding stepped decided

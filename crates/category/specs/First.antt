@@ -2,7 +2,7 @@
 use Prim.Native.Nat.{ℕ, _+_, _*_, _≤_, _<_}
 use mathlib.Core.Path.{_≡_}
 use mathlib.Core.List.{List}
-use Rattle.eeprom.specs.Image.{endMost}
+use Rattle.eeprom.specs.Image.{imageMost}
 use Rattle.category.specs.Layout.{firstHeader, headerWords, typeAt, lengthAt, endMark, wordMost}
 use Rattle.category.specs.Category.{emptyMost, counted}
 
@@ -35,7 +35,7 @@ pub record FirstOf (image : List ℕ) (number pos end : ℕ) : Type 0 where
   pub named : typeAt image word ≡ number
   pub starts : pos ≡ 2 * (word + headerWords)
   pub ends : end ≡ pos + 2 * lengthAt image word
-  pub bounded : end ≤ endMost
+  pub bounded : end ≤ imageMost
 
 -- why no category stands behind the header at word w, before which there are e empty ones
 pub data NoFurther (image : List ℕ) (w e : ℕ) : Type 0 where
@@ -53,7 +53,7 @@ pub record NoneOf (image : List ℕ) (number : ℕ) : Type 0 where
 -- why the header at word w leads past: of another number, its length leads past the last word; of this number, its body would end above a range's limit
 pub data TooFar (image : List ℕ) (number w : ℕ) : Type 0 where
   over : (typeAt image w ≡ number → ⊥) → (typeAt image w ≡ endMark → ⊥) → wordMost < w + headerWords + lengthAt image w → TooFar image number w
-  above : typeAt image w ≡ number → endMost < 2 * (w + headerWords) + 2 * lengthAt image w → TooFar image number w
+  above : typeAt image w ≡ number → imageMost < 2 * (w + headerWords) + 2 * lengthAt image w → TooFar image number w
 
 -- a length leads past the last word, or the range of the category found would end above its limit
 pub record LeadsPast (image : List ℕ) (number : ℕ) : Type 0 where

@@ -70,7 +70,7 @@ pub fn distributed_clocks(image: &[u8], chunk: Chunk) -> DistributedClocks
     ensures { λ r. ⌜ backClocks r ≡ back clockZero clockMost (clocksOf (now (image .entry))) ⌝ }
 {
     match category(image, chunk, DISTRIBUTED_CLOCK) {
-        Found::At(g) => clocks_in(image, chunk, g.byte_pos as u32, g.end as u32),
+        Found::At(g) => clocks_in(image, chunk, g.byte_pos, g.end),
         Found::Absent => no_clocks(ListAnswer::Listed),
         Found::No(x) => no_clocks(ListAnswer::No(x)),
     }

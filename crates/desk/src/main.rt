@@ -15,6 +15,16 @@ mod words;
 
 use crate::input::State;
 use crate::requests::answer;
+use eeprom::IMAGE_MOST;
+
+// The most BYTES that a word may have: twice those of an image, so that one that is too long is answered by the call itself.
+const BYTES_MOST: usize = 2 * IMAGE_MOST;
+
+// The longest line: two words of BYTES, two digits for each, and as many bytes as an image has for the others.
+const LINE_MOST: usize = 4 * BYTES_MOST + IMAGE_MOST;
+
+// So many bytes of answers are written out without waiting for the input's next bytes; an answer, of one slice at most, has fewer.
+const MOST_WAITING: usize = LINE_MOST / 2;
 
 // Buffers for input, one line, the BYTES of a request, its numbers, its answer's numbers, and answers that wait.
 fn main() {
@@ -37,17 +47,14 @@ fn main() {
 }
 
 // Room for the longest line, and for the answers that wait.
-fn longest() -> [u8; 600000] {
-    [0u8; 600000]
+fn longest() -> [u8; LINE_MOST] {
+    [0u8; LINE_MOST]
 }
 
-// Room for the most BYTES that a word may have.
-fn bytes() -> [u8; 131072] {
-    [0u8; 131072]
+// Room for the BYTES of a word.
+fn bytes() -> [u8; BYTES_MOST] {
+    [0u8; BYTES_MOST]
 }
-
-// So many bytes of answers are written out without waiting for the input's next bytes; an answer has fewer.
-const MOST_WAITING: usize = 300000;
 
 // The bytes at hand, up to a line's end; if there is one, the line's answer.
 fn proceed(

@@ -1,5 +1,6 @@
 // The requests on the checksum and the EEPROM range.
 use crate::numbers::chunk;
+use crate::numbers::long;
 use crate::numbers::word;
 use crate::reply::FIRST;
 use crate::reply::Reply;
@@ -14,6 +15,7 @@ use crate::reply::with_slice;
 use eeprom::Chunk;
 use eeprom::Exact;
 use eeprom::ExactRead;
+use eeprom::Pos;
 use eeprom::Range;
 use eeprom::RangeAnswer;
 use eeprom::Reading;
@@ -47,11 +49,11 @@ pub(crate) fn shape(name: u64) -> u64 {
         CRC => 0xb,
         NEW => 0x22,
         STARTAT => 0x22,
-        SKIP => 0x222,
-        BYTE => 0xbc22,
-        READ => 0xbc22b,
-        EXACT => 0xbc22b,
-        WRITE => 0xb22b,
+        SKIP => 0x442,
+        BYTE => 0xbc44,
+        READ => 0xbc44b,
+        EXACT => 0xbc44b,
+        WRITE => 0xb44b,
         _ => 0,
     }
 }
@@ -80,8 +82,8 @@ pub(crate) fn answer(
 fn range(nums: &[u64], i: u8) -> Range {
     let k = i as usize;
     Range {
-        byte_pos: word(nums, k),
-        end: word(nums, k + 1),
+        byte_pos: long(nums, k),
+        end: long(nums, k + 1),
     }
 }
 
@@ -120,7 +122,7 @@ fn skip(g: Range, n: u16, row: &mut [u64]) -> Reply {
     }
 }
 
-fn of_byte(row: &mut [u64], s: ByteStep, end: u16) -> Reply {
+fn of_byte(row: &mut [u64], s: ByteStep, end: Pos) -> Reply {
     let answer = s.answer;
     let after = Range {
         byte_pos: s.byte_pos,
@@ -164,7 +166,7 @@ fn exact(image: &[u8], chunk: Chunk, g: Range, buf: &mut [u8], row: &mut [u64]) 
     with_slice(of_exact(row, r), SECOND, k)
 }
 
-fn of_writing(row: &mut [u64], s: CountStep, end: u16) -> Reply {
+fn of_writing(row: &mut [u64], s: CountStep, end: Pos) -> Reply {
     let answer = s.answer;
     let after = Range {
         byte_pos: s.byte_pos,

@@ -8,13 +8,9 @@ use Rattle.wire.specs.Bytes.{filled}
 use Rattle.eeprom.specs.declared.Chunk.{Chunk}
 use Rattle.eeprom.specs.declared.Chunk.the-variants as chunk
 
--- the most bytes that an image has
+-- the most bytes that an image has: no position and no end of a range lies beyond them
 abbrev pub imageMost : ℕ
-imageMost = 65536
-
--- the largest end of a range, and the largest position
-abbrev pub endMost : ℕ
-endMost = 65535
+imageMost = 131072
 
 -- the largest number of 32 bits: places and counts of the readers behind the public calls stay within it
 abbrev pub longMost : ℕ
@@ -28,9 +24,13 @@ farMost = 1099511627776
 unfoldable pub within : List ℕ → Bool
 within image = leb (length image) imageMost
 
--- .. and the end is even: the bounds of every call on a range
-unfoldable pub fine : List ℕ → ℕ → Bool
-fine image end = within image && eqb (end % 2) 0
+-- a range's position and its even end are within that too
+unfoldable pub inBounds : ℕ → ℕ → Bool
+inBounds pos end = leb pos imageMost && eqb (end % 2) 0 && leb end imageMost
+
+-- the image and the range: the bounds of every call on both
+unfoldable pub fine : List ℕ → ℕ → ℕ → Bool
+fine image pos end = within image && inBounds pos end
 
 -- how many bytes a chunk has
 abbrev pub widthOf : Chunk → ℕ

@@ -6,7 +6,7 @@ use lib.ListN.{length, take, replicate}
 use lib.Dec.{leb, ltb, eqb}
 use Rattle.refusal.specs.Said.{Said, gives, refuses, pick}
 use Rattle.wire.specs.Bytes.{byteAt, filled, overlay}
-use Rattle.eeprom.specs.Image.{endMost, fine}
+use Rattle.eeprom.specs.Image.{imageMost, inBounds, fine}
 use Rattle.eeprom.specs.declared.Range.{Range}
 
 -- a range, at another position
@@ -17,7 +17,7 @@ standing g pos = record { «byte_pos» = pos; end = g .end }
 
 -- from word w for n words
 unfoldable pub newSaid : ℕ → ℕ → Said
-newSaid w n = pick (leb (2 * w + 2 * n) endMost) (gives ((2 * w) ∷ (2 * w + 2 * n) ∷ [])) (refuses 1 [])
+newSaid w n = pick (leb (2 * w + 2 * n) imageMost) (gives ((2 * w) ∷ (2 * w + 2 * n) ∷ [])) (refuses 1 [])
 
 -- from word w for a length in bytes, an odd byte dropped
 unfoldable pub startSaid : ℕ → ℕ → Said
@@ -29,20 +29,20 @@ startSaid w bytes = newSaid w (bytes / 2)
 unfoldable pub skipIn : ℕ → ℕ → ℕ → Said
 skipIn pos end skip = pick (ltb (pos + skip) end) (gives ((pos + skip) ∷ end ∷ [])) (refuses 2 [])
 
--- what a skip says: an odd end is outside the bounds
+-- what a skip says
 unfoldable pub skipSaid : ℕ → ℕ → ℕ → Said
-skipSaid pos end skip = pick (eqb (end % 2) 0) (skipIn pos end skip) (refuses 14 [])
+skipSaid pos end skip = pick (inBounds pos end) (skipIn pos end skip) (refuses 14 [])
 
 -- ---- reading a byte
 
 -- the byte at the position, which must lie before the end, and below the largest position
 unfoldable pub byteIn : List ℕ → ℕ → ℕ → Said
 byteIn image pos end =
-    pick (ltb pos end) (pick (ltb pos endMost) (gives (byteAt image pos ∷ (pos + 1) ∷ end ∷ [])) (refuses 1 [])) (refuses 2 [])
+    pick (ltb pos end) (pick (ltb pos imageMost) (gives (byteAt image pos ∷ (pos + 1) ∷ end ∷ [])) (refuses 1 [])) (refuses 2 [])
 
 -- what a byte read says
 unfoldable pub byteSaid : List ℕ → ℕ → ℕ → Said
-byteSaid image pos end = pick (fine image end) (byteIn image pos end) (refuses 14 [])
+byteSaid image pos end = pick (fine image pos end) (byteIn image pos end) (refuses 14 [])
 
 -- ---- reading into a lent buffer
 
@@ -53,11 +53,11 @@ taken pos end k = min k (end - pos)
 -- what a read into k bytes says: how many it took, and the range after them
 unfoldable pub readSaid : List ℕ → ℕ → ℕ → ℕ → Said
 readSaid image pos end k =
-    pick (fine image end) (gives (taken pos end k ∷ (pos + taken pos end k) ∷ end ∷ [])) (refuses 14 [])
+    pick (fine image pos end) (gives (taken pos end k ∷ (pos + taken pos end k) ∷ end ∷ [])) (refuses 14 [])
 
 -- what a read leaves in the buffer
 unfoldable pub readBuf : List ℕ → ℕ → ℕ → List ℕ → List ℕ
-readBuf image pos end buf = pick (fine image end) (filled image pos (taken pos end (length buf)) buf) buf
+readBuf image pos end buf = pick (fine image pos end) (filled image pos (taken pos end (length buf)) buf) buf
 
 -- what an exact read of k bytes says where there are n: what does not fit is refused (RULES, refusals: 2)
 abbrev pub allSaid : ℕ → ℕ → Said
@@ -65,11 +65,11 @@ allSaid n k = pick (ltb n k) (refuses 2 []) (gives [])
 
 -- what an exact read of k bytes says (RULES, range): no byte always succeeds
 unfoldable pub exactSaid : List ℕ → ℕ → ℕ → ℕ → Said
-exactSaid image pos end k = pick (fine image end) (allSaid (end - pos) k) (refuses 14 [])
+exactSaid image pos end k = pick (fine image pos end) (allSaid (end - pos) k) (refuses 14 [])
 
 -- where it stands after that: behind what it read; refused with 2 at the end, or where it was if that is past the end (RULES, refusals)
 unfoldable pub exactPos : List ℕ → ℕ → ℕ → ℕ → ℕ
-exactPos image pos end k = pick (fine image end) (pick (ltb (end - pos) k) (max pos end) (pos + k)) pos
+exactPos image pos end k = pick (fine image pos end) (pick (ltb (end - pos) k) (max pos end) (pos + k)) pos
 
 -- the range after it
 abbrev pub exactRange : List ℕ → Range → ℕ → Range
@@ -101,22 +101,30 @@ wordsAsked pos end k = min (wordsFor (end - pos)) (wordsFor k)
 unfoldable pub wordsIn : ℕ → ℕ → ℕ
 wordsIn size pos = size / 2 - pos / 2
 
+-- the words that can be counted: each takes the position 2 further, and no position passes the limit
+unfoldable pub wordsCounted : ℕ → ℕ
+wordsCounted pos = (imageMost - pos) / 2
+
 -- the words that are written: m
 unfoldable pub wordsWritten : ℕ → ℕ → ℕ → ℕ → ℕ
-wordsWritten size pos end k = min (wordsAsked pos end k) (wordsIn size pos)
+wordsWritten size pos end k = min (wordsAsked pos end k) (min (wordsCounted pos) (wordsIn size pos))
 
--- a write of k bytes says how many bytes it wrote, the padding counted; where m is less than the words asked for, it is refused (RULES, refusals: 7)
+-- why no more than m words are written: the next position would pass the limit (RULES, refusals: 1), else the next word is not in the image (7)
+unfoldable pub stopped : ℕ → ℕ → Said
+stopped pos m = pick (leb (wordsCounted pos) m) (refuses 1 []) (refuses 7 [])
+
+-- a write of k bytes says how many bytes it wrote, the padding counted; where m is less than the words asked for, it is refused
 unfoldable pub writeIn : ℕ → ℕ → ℕ → ℕ → Said
 writeIn size pos end k =
-    pick (ltb (wordsWritten size pos end k) (wordsAsked pos end k)) (refuses 7 []) (gives (2 * wordsWritten size pos end k ∷ []))
+    pick (ltb (wordsWritten size pos end k) (wordsAsked pos end k)) (stopped pos (wordsWritten size pos end k)) (gives (2 * wordsWritten size pos end k ∷ []))
 
 -- what a write says
 unfoldable pub writeSaid : List ℕ → ℕ → ℕ → List ℕ → Said
-writeSaid image pos end bytes = pick (fine image end) (writeIn (length image) pos end (length bytes)) (refuses 14 [])
+writeSaid image pos end bytes = pick (fine image pos end) (writeIn (length image) pos end (length bytes)) (refuses 14 [])
 
 -- where it stands after that: behind the words written
 unfoldable pub writePos : List ℕ → ℕ → ℕ → List ℕ → ℕ
-writePos image pos end bytes = pick (fine image end) (pos + 2 * wordsWritten (length image) pos end (length bytes)) pos
+writePos image pos end bytes = pick (fine image pos end) (pos + 2 * wordsWritten (length image) pos end (length bytes)) pos
 
 -- the range after it
 abbrev pub writeRange : List ℕ → Range → List ℕ → Range
@@ -128,4 +136,4 @@ wordsLaid image pos m bytes = overlay image (wordStart pos) (take (2 * m) (padde
 
 -- what a write leaves in the image
 unfoldable pub writeImage : List ℕ → ℕ → ℕ → List ℕ → List ℕ
-writeImage image pos end bytes = pick (fine image end) (wordsLaid image pos (wordsWritten (length image) pos end (length bytes)) bytes) image
+writeImage image pos end bytes = pick (fine image pos end) (wordsLaid image pos (wordsWritten (length image) pos end (length bytes)) bytes) image

@@ -10,7 +10,7 @@ ghost use mathlib.Core.List.{[], _∷_};
 ghost use Prim.Native.Nat.{_+_, _-_, _*_, _%_, _≤_, _<_};
 ghost use lib.ListN.{length, getD};
 ghost use Rattle.wire.specs.Bytes.{byteAt, le16, le32, span, filled, overlay};
-ghost use Rattle.eeprom.specs.Image.{endMost, longMost, farMost, within, fine, widthOf, chunkOf};
+ghost use Rattle.eeprom.specs.Image.{imageMost, longMost, farMost, within, inBounds, fine, widthOf, chunkOf};
 ghost use Rattle.eeprom.specs.Range.{newSaid, startSaid, byteIn, byteSaid, skipSaid, readSaid, readBuf, allSaid, exactSaid, exactRange, exactBuf, wordsWritten, wordsLaid, writeIn, writeSaid, writeRange, writeImage};
 ghost use Rattle.eeprom.specs.Answers.{saidRange, saidByte, saidReading, saidExact, saidWriting};
 
@@ -23,7 +23,7 @@ pub enum Chunk {
 }
 
 // A position in the image, and a count of bytes of a range.
-pub type Pos = u16;
+pub type Pos = u32;
 
 // A range of the image: where it stands, and where it ends, in bytes.
 pub struct Range {
@@ -67,7 +67,7 @@ pub struct ExactRead {
 pub enum Writing {
     // How many bytes, the padding counted.
     Written(Pos),
-    // 14, then 7: a word to write is not wholly in the image.
+    // 14; then, word by word, 1: the next position would pass the limit; 7: the word is not wholly in the image.
     No(Refusal),
 }
 
@@ -78,10 +78,10 @@ pub struct WordsWritten {
 }
 
 // The most bytes that an image has.
-pub const IMAGE_MOST: usize = 65536;
+pub const IMAGE_MOST: usize = 131072;
 
-// The largest end of a range, and the largest position.
-const END_MOST: u32 = 65535;
+// No position and no end of a range lies beyond them.
+const POS_MOST: Pos = IMAGE_MOST as Pos;
 
 // The image has no more bytes than it may.
 pub fn image_within(image: &[u8]) -> bool
@@ -161,12 +161,12 @@ impl Range {
     pub fn new(start_word: u16, len_words: u16) -> RangeAnswer
         ensures { λ r. ⌜ saidRange r ≡ newSaid «start_word» «len_words» ⌝ }
     {
-        let from = 2 * (start_word as u32);
-        let end = from + 2 * (len_words as u32);
-        if end <= END_MOST {
+        let from = 2 * (start_word as Pos);
+        let end = from + 2 * (len_words as Pos);
+        if end <= POS_MOST {
             RangeAnswer::Made(Range {
-                byte_pos: from as Pos,
-                end: end as Pos,
+                byte_pos: from,
+                end,
             })
         } else {
             RangeAnswer::No(Refusal::Address)
@@ -186,7 +186,7 @@ impl Range {
     {
         let pos = self.byte_pos;
         let end = self.end;
-        if end % 2 == 0 {
+        if in_bounds(pos, end) {
             let to = (pos as u64) + (skip as u64);
             if to < (end as u64) {
                 RangeAnswer::Made(Range {
@@ -207,7 +207,7 @@ impl Range {
     {
         let pos = self.byte_pos;
         let end = self.end;
-        if sound(image, end) {
+        if sound(image, pos, end) {
             byte_in(image, chunk, pos, end)
         } else {
             ByteAnswer::No(Refusal::BadArgument)
@@ -221,9 +221,9 @@ impl Range {
     {
         let pos = self.byte_pos;
         let end = self.end;
-        if sound(image, end) {
+        if sound(image, pos, end) {
             let n = lesser(buf.len(), left(pos, end));
-            read_chunks(image, chunk, pos as u32, n, buf);
+            read_chunks(image, chunk, pos, n, buf);
             Reading::Took(
                 n as Pos,
                 Range {
@@ -255,7 +255,7 @@ impl Range {
         }
     }
 
-    // Writes the bytes as words, while the position is before the end. Refuses 14, then 7, which keeps the words already written and stands after them.
+    // Writes the bytes as words, while the position is before the end. Refuses 14, then 1, then 7; these two keep the words already written and stand after them.
     pub fn write(self, image: &mut [u8], bytes: &[u8]) -> WordsWritten
         ensures said { λ r. ⌜ saidWriting (r .answer) ≡ writeSaid (now (image .entry)) (self .«byte_pos») (self .end) (now (bytes .entry)) ⌝ }
         ensures stands { λ r. ⌜ r .range ≡ writeRange (now (image .entry)) self (now (bytes .entry)) ⌝ }
@@ -263,7 +263,7 @@ impl Range {
     {
         let pos = self.byte_pos;
         let end = self.end;
-        if sound(image, end) {
+        if sound(image, pos, end) {
             write_words(image, pos, end, bytes)
         } else {
             WordsWritten {
@@ -274,12 +274,23 @@ impl Range {
     }
 }
 
-// The image is not too long, and the end is even.
-fn sound(image: &[u8], end: Pos) -> bool
-    ensures { λ r. ⌜ r ≡ fine (now (image .entry)) end ⌝ }
+// Position and end are within the limit, and the end is even.
+fn in_bounds(pos: Pos, end: Pos) -> bool
+    ensures { λ r. ⌜ r ≡ inBounds pos end ⌝ }
+{
+    if pos <= POS_MOST {
+        if end % 2 == 0 { end <= POS_MOST } else { false }
+    } else {
+        false
+    }
+}
+
+// .. and the image is not too long.
+fn sound(image: &[u8], pos: Pos, end: Pos) -> bool
+    ensures { λ r. ⌜ r ≡ fine (now (image .entry)) pos end ⌝ }
 {
     if image_within(image) {
-        end % 2 == 0
+        in_bounds(pos, end)
     } else {
         false
     }
@@ -292,10 +303,10 @@ fn byte_in(image: &[u8], chunk: Chunk, pos: Pos, end: Pos) -> ByteAnswer
     if pos >= end {
         return ByteAnswer::No(Refusal::Overrun);
     }
-    if (pos as u32) < END_MOST {
+    if pos < POS_MOST {
         let next = pos + 1;
         ByteAnswer::Byte(
-            byte_of(image, chunk, pos as u32),
+            byte_of(image, chunk, pos),
             Range {
                 byte_pos: next,
                 end,
@@ -366,7 +377,7 @@ fn write_word(image: &mut [u8], start_word: usize, low: u8, high: u8)
 
 // Writes words while the position is before the end and bytes remain.
 fn write_words(image: &mut [u8], pos: Pos, end: Pos, bytes: &[u8]) -> WordsWritten
-    requires { ⌜ end < endMost ⌝ }
+    requires { ⌜ end ≤ imageMost ⌝ }
     ensures said { λ r. ⌜ saidWriting (r .answer) ≡ writeIn (length (now (image .entry))) pos end (length (now (bytes .entry))) ⌝ }
     ensures stands { λ r. ⌜ (r .range .«byte_pos» ≡ pos + 2 * wordsWritten (length (now (image .entry))) pos end (length (now (bytes .entry)))) × (r .range .end ≡ end) ⌝ }
     ensures lent { λ _. ⌜ now (image .exit) ≡ wordsLaid (now (image .entry)) pos (wordsWritten (length (now (image .entry))) pos end (length (now (bytes .entry)))) (now (bytes .entry)) ⌝ }
@@ -374,6 +385,9 @@ fn write_words(image: &mut [u8], pos: Pos, end: Pos, bytes: &[u8]) -> WordsWritt
     let mut at = pos;
     let mut n = 0;
     while at < end && n < bytes.len() {
+        if POS_MOST < at + 2 {
+            return write_done(Writing::No(Refusal::Address), at, end);
+        }
         let start_word = (at / 2) as usize;
         if 2 * start_word + 2 <= image.len() {
             write_word(image, start_word, bytes[n], or_pad(bytes, n + 1));

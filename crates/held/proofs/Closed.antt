@@ -7,7 +7,7 @@ use denote.Ref.{RefT, now, at-last}
 use Rattle.refusal.specs.Said.{Said, refuses}
 use Rattle.eeprom.specs.Image.{fine}
 use Rattle.eeprom.specs.Range.{newSaid}
-use Rattle.eeprom.proofs.Laws.{fine-odd, skip-bad, byte-bad, read-bad, exact-bad, write-bad}
+use Rattle.eeprom.proofs.Laws.{bounds-odd, fine-odd, skip-bad, byte-bad, read-bad, exact-bad, write-bad}
 use Rattle.held.specs.Range.{alone, stands, ends, closedEnd, rangeOn, rangeMutOn, after, movedTo, skipOf, byteOf, readOf, readInto, exactOf, afterExact, exactInto, writeOf, written}
 use Rattle.held.specs.Closed.{bad, Closed, ClosedMut}
 use Rattle.held.specs.declared.EepromRange.{EepromRange}
@@ -27,9 +27,9 @@ shutMut image = record { image = image; «byte_pos» = 0; end = closedEnd }
 
 shut-closed : (image : RefT (List ℕ)) → Closed (shut image)
 shut-closed image =
-    let f : fine (now image) closedEnd ≡ false = fine-odd (now image) closedEnd refl in
+    let f : fine (now image) 0 closedEnd ≡ false = fine-odd (now image) 0 closedEnd refl in
     record {
-      skip-ahead-bytes = λ n. bad-apart (shut image) (skipOf (shut image) n) (skip-bad 0 closedEnd n refl);
+      skip-ahead-bytes = λ n. bad-apart (shut image) (skipOf (shut image) n) (skip-bad 0 closedEnd n (bounds-odd 0 closedEnd refl));
       read-byte = bad-apart (shut image) (byteOf (shut image)) (byte-bad (now image) 0 closedEnd f);
       read =
           λ buf.
@@ -47,7 +47,7 @@ shut-closed-mut image =
     record {
       write =
           λ bytes.
-          let b = write-bad (now image) 0 closedEnd bytes (fine-odd (now image) closedEnd refl) in
+          let b = write-bad (now image) 0 closedEnd bytes (fine-odd (now image) 0 closedEnd refl) in
           (b .0, λ i. record { image = at-last image (b .1 .1 i); «byte_pos» = b .1 .0 i; end = closedEnd });
     }
 

@@ -46,7 +46,7 @@ abbrev pub Got : ℕ → ℕ → RangeStep → Type 0
 Got n m r = (saidOutcome (r .answer) ≡ alone (newSaid n m)) × ((r .«byte_pos» ≡ stands 0 (newSaid n m)) × (r .end ≡ ends (newSaid n m)))
 
 abbrev pub Known : RangeStep → Type 0
-Known r = Is S.the-row (r .answer) (EL.vals S.the-type S′.the-laws (r .answer)) × ((r .«byte_pos» < 2 ^ 16) × (r .end < 2 ^ 16))
+Known r = Is S.the-row (r .answer) (EL.vals S.the-type S′.the-laws (r .answer)) × ((r .«byte_pos» < 2 ^ 32) × (r .end < 2 ^ 32))
 
 pub fields : (r : RangeStep) (u : Val) → Is R.the-row r (u ∷ []) → Known r
 fields r u is = let f = LL.owed R.the-type R′.the-laws r (u ∷ []) is in (f .0, (f .1 .0 .1, f .1 .1 .0 .1))

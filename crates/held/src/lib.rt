@@ -149,7 +149,7 @@ impl<'a> EepromRangeMut<'a> {
         }
     }
 
-    // Writes the bytes as words, while the position is before the end. Refuses 14, then 7, which keeps the words already written.
+    // Writes the bytes as words, while the position is before the end. Refuses 14, then 1, then 7; these two keep the words already written.
     pub fn write(&mut self, bytes: &[u8]) -> Counted
         ensures { λ d. ⌜ (saidCounted d ≡ writeOf (now (self .entry)) (now (bytes .entry))) × (now (self .exit) ≡ written (now (self .entry)) (now (bytes .entry))) ⌝ }
     {
@@ -177,7 +177,7 @@ pub fn byte_in(image: &[u8], byte_pos: Pos, end: Pos, chunk: Chunk) -> ByteStep
     }
 }
 
-// Writes to the image at a position, and says the position after that: a range made here, lent to `write`, and looked at again. Refuses 14, then 7.
+// Writes to the image at a position, and says the position after that: a range made here, lent to `write`, and looked at again. Refuses 14, then 1, then 7.
 pub fn write_in(image: &mut [u8], byte_pos: Pos, end: Pos, bytes: &[u8]) -> CountStep
     ensures { λ r. ⌜ ((saidCounted (r .answer) ≡ writeSaid (now (image .entry)) «byte_pos» end (now (bytes .entry))) × (r .«byte_pos» ≡ writePos (now (image .entry)) «byte_pos» end (now (bytes .entry)))) × (now (image .exit) ≡ writeImage (now (image .entry)) «byte_pos» end (now (bytes .entry))) ⌝ }
 {

@@ -136,7 +136,7 @@ pub fn sync_managers(image: &[u8], chunk: Chunk) -> SyncManagers
     ensures { λ r. ⌜ backSms r ≡ back smZero smMost (smsOf (now (image .entry))) ⌝ }
 {
     match category(image, chunk, SYNC_MANAGER) {
-        Found::At(g) => sms_in(image, chunk, g.byte_pos as u32, g.end as u32),
+        Found::At(g) => sms_in(image, chunk, g.byte_pos, g.end),
         Found::Absent => no_sms(ListAnswer::Listed),
         Found::No(x) => no_sms(ListAnswer::No(x)),
     }
@@ -294,7 +294,7 @@ pub fn fmmus(image: &[u8], chunk: Chunk) -> FmmuList
     ensures { λ r. ⌜ backFmmus r ≡ back 0 fmmuMost (usagesOf (now (image .entry))) ⌝ }
 {
     match category(image, chunk, FMMU) {
-        Found::At(g) => usages_in(image, chunk, g.byte_pos as u32, g.end as u32),
+        Found::At(g) => usages_in(image, chunk, g.byte_pos, g.end),
         Found::Absent => no_fmmus(ListAnswer::Listed),
         Found::No(x) => no_fmmus(ListAnswer::No(x)),
     }
@@ -305,7 +305,7 @@ pub fn fmmu_mappings(image: &[u8], chunk: Chunk) -> FmmuList
     ensures { λ r. ⌜ backFmmus r ≡ back 0 fmmuMost (exOf (now (image .entry))) ⌝ }
 {
     match category(image, chunk, FMMU_EXTENDED) {
-        Found::At(g) => fmmus_in(image, chunk, FmmuKind::Ex, g.byte_pos as u32, g.end as u32),
+        Found::At(g) => fmmus_in(image, chunk, FmmuKind::Ex, g.byte_pos, g.end),
         Found::Absent => no_fmmus(ListAnswer::Listed),
         Found::No(x) => no_fmmus(ListAnswer::No(x)),
     }
@@ -433,7 +433,7 @@ fn pdos(image: &[u8], chunk: Chunk, number: u16) -> PdoList
     ensures { λ r. ⌜ backPdos r ≡ back pdoZero pdoMost (pdosOf (now (image .entry)) number) ⌝ }
 {
     match category(image, chunk, number) {
-        Found::At(g) => pdos_in(image, chunk, g.byte_pos as u32, g.end as u32),
+        Found::At(g) => pdos_in(image, chunk, g.byte_pos, g.end),
         Found::Absent => no_pdos(ListAnswer::Listed),
         Found::No(x) => no_pdos(ListAnswer::No(x)),
     }

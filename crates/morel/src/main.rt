@@ -131,13 +131,18 @@ fn most(command: u8) -> usize {
     }
 }
 
+// Room for the longest file, which is an image.
+fn longest() -> [u8; IMAGE_MOST] {
+    [0u8; IMAGE_MOST]
+}
+
 // Reads the command's file, and does what it is to do.
 fn on_file(command: u8, name: &[u8], at: usize) -> u8 {
     if command == NONE {
         return usage();
     }
     let mut path = io::buffer();
-    let mut room = io::large_buffer();
+    let mut room = longest();
     let k = os::arg(file_at(command, at), &mut path);
     let n = file::read(name, &path[..k], front_mut(&mut room, most(command)));
     if n <= IMAGE_MOST {

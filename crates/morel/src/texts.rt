@@ -71,7 +71,7 @@ fn count(image: &[u8], g: Range) -> u8 {
     if g.byte_pos == g.end {
         0
     } else {
-        eeprom::byte_of(image, Chunk::Eight, g.byte_pos as u32)
+        eeprom::byte_of(image, Chunk::Eight, g.byte_pos)
     }
 }
 

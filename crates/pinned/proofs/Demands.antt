@@ -19,7 +19,7 @@ module _ {M : Type 1} (𝓤 : URA M) (H : Heap 𝓤) (A : Atoms 𝓤) (mem : Mem
   -- THE STATEMENT
   pub every-demand : EveryDemand 𝓤 H A mem run
   every-demand = record {
-    «eeprom::Range::read_byte» = λ κs a g r e. of-one 𝓤 (λ met m l p. byte-never-1 _ _ _ l m (sym met ∙ p));
+    «eeprom::Range::read_byte» = λ κs a g r e. of-one 𝓤 (λ met l p. byte-never-1 _ _ _ l (sym met ∙ p));
     «created_frame::push_pdu» = λ κs a g r e. of-three 𝓤 (λ met. pushes _ _ _ _ _ _ _ r _ met);
     «frame_reader::read_frame» = λ κs a g r e. of-one 𝓤 (λ met. reads _ r met);
     «spread::spread» = λ κs a g r e. of-one 𝓤 (λ met. demand3 _ _ _ _ _ _ _ r _ met);

@@ -292,7 +292,7 @@ pub fn find_general(image: &[u8], chunk: Chunk) -> GeneralFound
     ensures { λ r. ⌜ saidFound r ≡ generalFound (now (image .entry)) ⌝ }
 {
     match category(image, chunk, GENERAL) {
-        Found::At(g) => general_in(image, chunk, g.byte_pos as u32, g.end as u32),
+        Found::At(g) => general_in(image, chunk, g.byte_pos, g.end),
         Found::Absent => GeneralFound::Absent,
         Found::No(x) => GeneralFound::No(x),
     }
@@ -383,7 +383,7 @@ fn general_word(image: &[u8], chunk: Chunk, k: u32) -> WordAnswer
     ensures { λ r. ⌜ saidWord r ≡ generalWord (now (image .entry)) (word k) ⌝ }
 {
     match category(image, chunk, GENERAL) {
-        Found::At(g) => word_in(image, chunk, g.byte_pos as u32, g.end as u32, k),
+        Found::At(g) => word_in(image, chunk, g.byte_pos, g.end, k),
         Found::Absent => WordAnswer::No(Refusal::NoCategory),
         Found::No(x) => WordAnswer::No(x),
     }

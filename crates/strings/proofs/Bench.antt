@@ -5,7 +5,7 @@ use mathlib.Core.List.{List, [], _∷_, _++_}
 use lib.ListN.{replicate}
 use Rattle.refusal.specs.Said.{gives, absent, refuses, on2, on3}
 use Rattle.wire.specs.Bytes.{byteAt, span, overlay}
-use Rattle.eeprom.specs.Image.{within, fine}
+use Rattle.eeprom.specs.Image.{within, inBounds, fine}
 use Rattle.eeprom.specs.Range.{newSaid, byteIn, byteSaid, skipIn, skipSaid, exactSaid}
 use Rattle.category.specs.Category.{among, counted, decided, stepped, searchOver, searchFrom, searched, categorySaid}
 use Rattle.sii.specs.General.{listed, generalOf, generalAdmits, generalIn, generalFound, needed, generalSaid}
@@ -34,7 +34,7 @@ pub record Cases : Type 0 where
 
 pub cases : Cases
 unfolding
-    twoStrings noStrings on2 on3 byteAt span overlay within fine newSaid byteIn byteSaid skipIn skipSaid exactSaid among counted decided stepped searchOver searchFrom searched categorySaid
+    twoStrings noStrings on2 on3 byteAt span overlay within inBounds fine newSaid byteIn byteSaid skipIn skipSaid exactSaid among counted decided stepped searchOver searchFrom searched categorySaid
     stringPast passedOne passed onExact fitted stringHere stringBehind stringIn soughtAt ascii shown textSaid fits bounded textFor stringSaid lengthSaid roomAfter
 cases = record { long = refl; zero = refl; wide = refl; empty = refl; empty-zero = refl; kept = refl }
 
@@ -60,7 +60,7 @@ pub record Named : Type 0 where
 
 pub names : Named
 unfolding
-    twoStrings named on2 on3 byteAt span within fine newSaid byteIn byteSaid skipIn skipSaid exactSaid among counted decided stepped searchOver searchFrom searched categorySaid
+    twoStrings named on2 on3 byteAt span within inBounds fine newSaid byteIn byteSaid skipIn skipSaid exactSaid among counted decided stepped searchOver searchFrom searched categorySaid
     listed generalOf generalAdmits generalIn generalFound needed generalSaid
     stringPast passedOne passed onExact fitted stringHere stringBehind stringIn soughtAt ascii shown textSaid fits bounded textFor stringSaid
     onGeneral stringBy nameSaid descriptionSaid

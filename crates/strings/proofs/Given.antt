@@ -52,7 +52,7 @@ text-given image k place text s e = go (fits image k) place s e
     never e = let z : _≡_ {A = ℕ} 0 1 = cc in absurd (omega arith)
 
     go : (t : Bool) (place : Said) → Small k place → pick t (on2 place (λ p n. gives (shown (span image p n)))) (refuses 14 []) ≡ gives text → Plain text × (length text ≤ k)
-    go true (gives l) s e = stored (getD l 0 0) (getD l 1 0) s e
+    go true (gives l) s e = stored (getD l 0 0) (getD l 1 0) (s .0) e
     go true absent s e = let z : _≡_ {A = ℕ} 0 1 = cc in absurd (omega arith)
     go true (refuses n v) s e = never e
     go false place s e = never e

@@ -14,9 +14,9 @@ use Rattle.refusal.proofs.Tests.{both}
 use Rattle.wire.specs.Bytes.{byteAt, span, overlay}
 use Rattle.wire.proofs.Laws.{span-add, length-overlay, overlay-next, overlay-none}
 use Rattle.wire.proofs.Stretch.{overlay-one}
-use Rattle.eeprom.specs.Image.{within, fine}
+use Rattle.eeprom.specs.Image.{imageMost, within, fine}
 use Rattle.eeprom.specs.Range.{byteSaid, exactSaid}
-use Rattle.eeprom.proofs.Laws.{exact-gives, exact-none, exact-refuses}
+use Rattle.eeprom.proofs.Laws.{bounds-of, fine-bounds, exact-gives, exact-none, exact-refuses, exact-given}
 use Rattle.category.specs.Numbers.{strings}
 use Rattle.category.specs.Category.{categorySaid}
 use Rattle.strings.specs.Strings.{stringPast, passedOne, passed, onExact, fitted, stringHere, stringBehind, stringIn, soughtAt, ascii, shown, textSaid, roomMost, fits, bounded, textFor, lengthSaid, roomAfter}
@@ -41,11 +41,11 @@ past-all s count h = le-leb count s h
 -- ---- bytes that are read exactly
 
 -- an exact read of n bytes gives if there are no fewer before the end, and else refuses
-exact-said : (image : List ℕ) (pos end n : ℕ) → fine image end ≡ true → n ≤ end - pos → exactSaid image pos end n ≡ gives []
+exact-said : (image : List ℕ) (pos end n : ℕ) → fine image pos end ≡ true → n ≤ end - pos → exactSaid image pos end n ≡ gives []
 exact-said image pos end zero f h = exact-none image pos end f .0
 exact-said image pos end (suc n) f h = exact-gives image pos end (suc n) f (omega arith) .0
 
-module _ (image : List ℕ) (pos end n : ℕ) (f : fine image end ≡ true) (s : Said) where
+module _ (image : List ℕ) (pos end n : ℕ) (f : fine image pos end ≡ true) (s : Said) where
   exact-fits : n ≤ end - pos → onExact (exactSaid image pos end n) s ≡ s
   unfolding onExact
   exact-fits h = rw (exact-said image pos end n f h)
@@ -60,16 +60,16 @@ module _ (image : List ℕ) (k n pos end : ℕ) where
   unfolding fitted
   fitted-long h = rw (lt-ltb k n h)
 
-  pub fitted-at : fine image end ≡ true → n ≤ k → n ≤ end - pos → gives (pos ∷ n ∷ []) ≡ fitted image k n pos end
+  pub fitted-at : fine image pos end ≡ true → n ≤ k → n ≤ end - pos → gives (pos ∷ n ∷ []) ≡ fitted image k n pos end
   unfolding fitted
   fitted-at f r h = rw (le-ltb k n r) (sym (exact-fits image pos end n f (gives (pos ∷ n ∷ [])) h))
 
-  pub fitted-cut : fine image end ≡ true → n ≤ k → end - pos < n → refuses 2 [] ≡ fitted image k n pos end
+  pub fitted-cut : fine image pos end ≡ true → n ≤ k → end - pos < n → refuses 2 [] ≡ fitted image k n pos end
   unfolding fitted
   fitted-cut f r h = rw (le-ltb k n r) (sym (exact-short image pos end n f (gives (pos ∷ n ∷ [])) h))
 
 -- .. a place that is given is of one that fits
-pub fitted-given : (image : List ℕ) (k n pos end : ℕ) (l : List ℕ) → fine image end ≡ true → fitted image k n pos end ≡ gives l →
+pub fitted-given : (image : List ℕ) (k n pos end : ℕ) (l : List ℕ) → fine image pos end ≡ true → fitted image k n pos end ≡ gives l →
     (l ≡ pos ∷ n ∷ []) × (n ≤ k) × (n ≤ end - pos)
 fitted-given image k n pos end l f p = go (ltb k n) (leb n (end - pos)) refl refl
   where
@@ -120,7 +120,7 @@ pub sought-on : (image : List ℕ) (index k : ℕ) → (index ≡ 0 → ⊥) →
 unfolding soughtAt
 sought-on image index k h = rw (ne-eqb index 0 h)
 
--- every place found fits the room
+-- every place found fits the room, and lies within the limit
 small-on2 : (m : ℕ) (s : Said) (k : ℕ → ℕ → Said) → ((a b : ℕ) → Small m (k a b)) → Small m (on2 s k)
 unfolding on2
 small-on2 m (gives l) k h = h (getD l 0 0) (getD l 1 0)
@@ -137,11 +137,11 @@ small-pick : (m : ℕ) (t : Bool) (a b : Said) → Small m a → Small m b → S
 small-pick m true a b x y = x
 small-pick m false a b x y = y
 
-small-exact : (m n p : ℕ) (s : Said) → n ≤ m → Small m (onExact s (gives (p ∷ n ∷ [])))
+small-exact : (m n p : ℕ) (s : Said) → n ≤ m → ((l : List ℕ) → s ≡ gives l → p ≤ imageMost) → Small m (onExact s (gives (p ∷ n ∷ [])))
 unfolding onExact
-small-exact m n p (gives l) h = h
-small-exact m n p absent h = tt
-small-exact m n p (refuses k v) h = tt
+small-exact m n p (gives l) h b = (h, b l refl)
+small-exact m n p absent h b = tt
+small-exact m n p (refuses k v) h b = tt
 
 small-fitted : (image : List ℕ) (m n p e : ℕ) → Small m (fitted image m n p e)
 unfolding fitted
@@ -149,7 +149,7 @@ small-fitted image m n p e = go (ltb m n) refl
   where
     go : (t : Bool) → ltb m n ≡ t → Small m (pick t (refuses 4 (m ∷ n ∷ [])) (onExact (exactSaid image p e n) (gives (p ∷ n ∷ []))))
     go true h = tt
-    go false h = small-exact m n p (exactSaid image p e n) (ltb-false m n h)
+    go false h = small-exact m n p (exactSaid image p e n) (ltb-false m n h) (λ l q. bounds-of p e (fine-bounds image p e (exact-given image p e n l q)) .stands)
 
 small-in : (image : List ℕ) (s m pos end : ℕ) → Small m (stringIn image s m pos end)
 unfolding stringIn stringBehind stringHere

@@ -14,12 +14,12 @@ use Rattle.refusal.specs.Said.{Said, gives, absent, refuses, pick, on2, on3}
 use Rattle.wire.specs.Bytes.{byteAt, span}
 use Rattle.wire.proofs.Laws.{length-span, span-add}
 use Rattle.wire.proofs.Stretch.{byte-span}
-use Rattle.eeprom.specs.Image.{within, fine}
+use Rattle.eeprom.specs.Image.{within, inBounds, fine}
 use Rattle.eeprom.specs.Range.{byteSaid, skipSaid}
-use Rattle.eeprom.proofs.Laws.{fine-is, byte-gives, byte-refuses, skip-gives, skip-refuses}
+use Rattle.eeprom.proofs.Laws.{fine-bounds, byte-gives, byte-refuses, skip-gives, skip-refuses}
 use Rattle.category.specs.Numbers.{strings}
 use Rattle.category.specs.Category.{categorySaid}
-use Rattle.category.proofs.First.{Readable, category-readable, found-first}
+use Rattle.category.proofs.First.{Readable, category-readable, readable-at, found-first}
 use Rattle.strings.specs.Strings.{stringPast, passedOne, passed, fitted, stringHere, stringBehind, stringIn, soughtAt, shown, textSaid, roomMost, fits, bounded, textFor, stringSaid}
 use Rattle.strings.specs.Plain.{Plain}
 use Rattle.strings.specs.Stored.{Lies, textBytes, rowBytes, stringsBytes, Stored, TextOf}
@@ -91,11 +91,14 @@ text-here image pos n h = rw (length-span image (pos + 1) n, h, add-one)
 -- ---- reading in a category that can be read
 
 module _ (image : List ℕ) (end : ℕ) (r : Readable image end) where
-  all-fine : fine image end ≡ true
-  all-fine = fine-is image end (r .short) (r .even)
+  all-fine : (pos : ℕ) → pos ≤ end → fine image pos end ≡ true
+  all-fine pos h = readable-at image pos end r h
+
+  all-in : (pos : ℕ) → pos ≤ end → inBounds pos end ≡ true
+  all-in pos h = fine-bounds image pos end (all-fine pos h)
 
   byte-there : (pos : ℕ) → pos < end → byteSaid image pos end ≡ gives (byteAt image pos ∷ (pos + 1) ∷ end ∷ [])
-  byte-there pos h = byte-gives image pos end all-fine h (r .last)
+  byte-there pos h = byte-gives image pos end (all-fine pos (omega arith)) h
 
   -- a text here, and one passed over, by the byte that stands first
   here-fits : (k pos : ℕ) → pos < end → stringHere image k pos end ≡ fitted image k (byteAt image pos) (pos + 1) end
@@ -113,11 +116,11 @@ module _ (image : List ℕ) (end : ℕ) (r : Readable image end) where
 
   behind-over : (s k pos n : ℕ) → byteAt image pos ≡ n → pos < end → pos + 1 + n < end → stringBehind image (suc s) k pos end ≡ stringBehind image s k (pos + 1 + n) end
   unfolding stringBehind passed on2
-  behind-over s k pos n b h m = rw (over-skips pos h, b, skip-gives (pos + 1) end n (r .even) m)
+  behind-over s k pos n b h m = rw (over-skips pos h, b, skip-gives (pos + 1) end n (all-in (pos + 1) (omega arith)) m)
 
   behind-cut : (s k pos n : ℕ) → byteAt image pos ≡ n → pos < end → end ≤ pos + 1 + n → stringBehind image (suc s) k pos end ≡ refuses 2 []
   unfolding stringBehind passed on2
-  behind-cut s k pos n b h m = rw (over-skips pos h, b, skip-refuses (pos + 1) end n (r .even) m)
+  behind-cut s k pos n b h m = rw (over-skips pos h, b, skip-refuses (pos + 1) end n (all-in (pos + 1) (omega arith)) m)
 
   in-category : (s k pos : ℕ) → pos < end →
       stringIn image s k pos end ≡ pick (stringPast s (byteAt image pos)) absent (stringBehind image s k (pos + 1) end)
@@ -125,9 +128,9 @@ module _ (image : List ℕ) (end : ℕ) (r : Readable image end) where
   in-category s k pos h = rw (byte-there pos h)
 
   -- an empty category has no count
-  in-empty : (s k pos : ℕ) → end ≤ pos → stringIn image s k pos end ≡ refuses 2 []
+  in-empty : (s k pos : ℕ) → pos ≤ end → end ≤ pos → stringIn image s k pos end ≡ refuses 2 []
   unfolding stringIn on3
-  in-empty s k pos h = rw (byte-refuses image pos end all-fine h)
+  in-empty s k pos m h = rw (byte-refuses image pos end (all-fine pos m) h)
 
 -- ---- what is stored is given
 
@@ -143,7 +146,7 @@ module _ (image : List ℕ) (end k : ℕ) (r : Readable image end) where
       let z = length-there image t more pos l in
       record {
         place = pos + 1;
-        gave = behind-none image end r k pos (length t) z (omega arith) ∙ sym (fitted-at image k (length t) (pos + 1) end (all-fine image end r) n (omega arith));
+        gave = behind-none image end r k pos (length t) z (omega arith) ∙ sym (fitted-at image k (length t) (pos + 1) end (all-fine image end r (pos + 1) (omega arith)) n (omega arith));
         lies = bytes-there image t more pos l;
       }
 
@@ -231,7 +234,7 @@ module _ (image : List ℕ) (end k : ℕ) (r : Readable image end) where
       let n = byteAt image pos in
       let t = span image (pos + 1) n in
       let z : length t ≡ n = length-span image (pos + 1) n in
-      let f = fitted-given image k n (pos + 1) end l (all-fine image end r) (sym (behind-none image end r k pos n refl h) ∙ p) in
+      let f = fitted-given image k n (pos + 1) end l (all-fine image end r (pos + 1) (omega arith)) (sym (behind-none image end r k pos n refl h) ∙ p) in
       record {
         texts = t ∷ [];
         many = refl;
@@ -281,13 +284,13 @@ module _ (image : List ℕ) (end k : ℕ) (r : Readable image end) where
       go false q c = (not-past s (byteAt image pos) q, row-behind s (pos + 1) l h c)
 
   -- .. and the category is not empty
-  in-filled : (s pos : ℕ) (l : List ℕ) → stringIn image s k pos end ≡ gives l → pos < end
-  in-filled s pos l p = go (ltb pos end) refl
+  in-filled : (s pos : ℕ) (l : List ℕ) → pos ≤ end → stringIn image s k pos end ≡ gives l → pos < end
+  in-filled s pos l m p = go (ltb pos end) refl
     where
       go : (t : Bool) → ltb pos end ≡ t → pos < end
       go true q = ltb-true pos end q
       go false q =
-          let c = sym (in-empty image end r s k pos (ltb-false pos end q)) ∙ p in
+          let c = sym (in-empty image end r s k pos m (ltb-false pos end q)) ∙ p in
           let z : _≡_ {A = ℕ} 0 1 = cc in
           absurd (omega arith)
 
@@ -311,7 +314,7 @@ module _ (image : List ℕ) (pos end : ℕ) (c : categorySaid image strings ≡ 
       let f = found-first image strings pos end c in
       let t = text-place image k (soughtAt image (i + 1) k) text p in
       let n = sym (sought-in image pos end c i k) ∙ t .1 in
-      let h : pos + 1 < end = omega (arith, f .starts, r .even, in-filled image end k r i pos (t .0) n) in
+      let h : pos + 1 < end = omega (arith, f .starts, r .even, in-filled image end k r i pos (t .0) (omega (arith, f .ends)) n) in
       let q = row-in image end k r i pos (t .0) h n in
       record {
         counted = q .0;
@@ -328,4 +331,6 @@ module _ (image : List ℕ) (pos end : ℕ) (c : categorySaid image strings ≡ 
   unfolding stringSaid textFor bounded fits textSaid on2
   empty-refused i k h m =
       let r = category-readable image strings pos end c in
-      rw (r .short, le-leb k roomMost m, sought-in image pos end c i k, in-empty image end r i k pos h)
+      let f = found-first image strings pos end c in
+      let e : pos ≤ end = omega (arith, f .ends) in
+      rw (r .short, le-leb k roomMost m, sought-in image pos end c i k, in-empty image end r i k pos e h)

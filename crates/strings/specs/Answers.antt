@@ -3,6 +3,7 @@ use Prim.Native.Nat.{ℕ, _≤_}
 use mathlib.Core.List.{[], _∷_}
 use lib.ListN.{getD}
 use Rattle.refusal.specs.Said.{Said, gives, absent, refuses, saidOf}
+use Rattle.eeprom.specs.Image.{imageMost}
 use Rattle.strings.specs.declared.Place.{Place}
 use Rattle.strings.specs.declared.Place.the-variants as place
 use Rattle.strings.specs.declared.StringAnswer.{StringAnswer}
@@ -18,8 +19,8 @@ saidPlace (place.At p n) = gives (p ∷ n ∷ [])
 saidPlace place.Absent = absent
 saidPlace (place.No x) = saidOf x
 
--- the bytes at the place have room
+-- the bytes at the place have room, and the place lies within the limit
 abbrev pub Small : ℕ → Said → Type 0
-Small k (gives l) = getD l 1 0 ≤ k
+Small k (gives l) = (getD l 1 0 ≤ k) × (getD l 0 0 ≤ imageMost)
 Small k absent = Unit {0}
 Small k (refuses n v) = Unit {0}

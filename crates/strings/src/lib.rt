@@ -22,7 +22,7 @@ ghost use mathlib.Core.Bool.{true};
 ghost use Prim.Native.Nat.{ℕ, _+_, _-_, _≤_, _<_};
 ghost use lib.ListN.{length};
 ghost use Rattle.wire.specs.Bytes.{span, overlay};
-ghost use Rattle.eeprom.specs.Image.{endMost, fine};
+ghost use Rattle.eeprom.specs.Image.{imageMost, fine};
 ghost use Rattle.eeprom.specs.Answers.{saidRange};
 ghost use Rattle.strings.specs.Strings.{stringPast, passedOne, passed, fitted, stringHere, stringBehind, stringIn, soughtAt, ascii, shown, textSaid, roomMost, fits, stringSaid, lengthSaid, roomAfter};
 ghost use Rattle.strings.specs.Names.{nameSaid, descriptionSaid};
@@ -197,7 +197,7 @@ fn here(image: &[u8], chunk: Chunk, g: Range, room: u16) -> Place
 
 // n bytes from pos on, for a room: an exact read of an image and a range within their bounds.
 fn fit(room: u16, n: u16, pos: Pos, end: Pos) -> Place
-    ensures { λ r. ⌜ ((image : List ℕ) → fine image end ≡ true → saidPlace r ≡ fitted image room n pos end) ⌝ }
+    ensures { λ r. ⌜ ((image : List ℕ) → fine image pos end ≡ true → saidPlace r ≡ fitted image room n pos end) ⌝ }
 {
     if room < n {
         return Place::No(Refusal::StringTooLong { room, stored: n });
@@ -224,7 +224,7 @@ fn text(image: &[u8], chunk: Chunk, place: Place, room: &mut [u8]) -> StringAnsw
 {
     match place {
         Place::At(p, n) => {
-            let k = lay_text(image, chunk, p as u32, n as u32, room);
+            let k = lay_text(image, chunk, p, n as u32, room);
             StringAnswer::Length(k as u16)
         }
         Place::Absent => StringAnswer::Absent,
@@ -234,7 +234,7 @@ fn text(image: &[u8], chunk: Chunk, place: Place, room: &mut [u8]) -> StringAnsw
 
 // The text of n bytes from at on; answers its length.
 fn lay_text(image: &[u8], chunk: Chunk, at: u32, n: u32, room: &mut [u8]) -> usize
-    requires { ⌜ (at ≤ endMost) × (n ≤ length (now room)) × (length (now room) ≤ roomMost) ⌝ }
+    requires { ⌜ (at ≤ imageMost) × (n ≤ length (now room)) × (length (now room) ≤ roomMost) ⌝ }
     ensures said { λ r. ⌜ r ≡ length (shown (span (now (image .entry)) at n)) ⌝ }
     ensures most { λ r. ⌜ r ≤ n ⌝ }
     ensures lent { λ _. ⌜ now (room .exit) ≡ overlay (now (room .entry)) 0 (shown (span (now (image .entry)) at n)) ⌝ }

@@ -1,6 +1,8 @@
 -- `distributed_clocks` lists the range that the search found.
 use mathlib.Core.Path.{ap, sym, _∙_}
+use native.Mathlib.Omega.{arith}
 use Rattle.category.specs.Answers.{saidFound}
+use Rattle.category.proofs.First.{found-within}
 use Rattle.lists.specs.Records.{back}
 use Rattle.lists.proofs.Laws.{refused, empty, in-at, in-absent, in-no}
 use Rattle.clock.specs.Clocks.{clockZero, clockMost, clocksOf}
@@ -15,14 +17,10 @@ category-requires c κs = search needs
 enum-known-g : tie.Need-enum-known-g
 enum-known-g c = search needs
 
-cast-clocks-in : tie.Need-cast-clocks-in
-cast-clocks-in c = search needs
-
-cast-clocks-in-2 : tie.Need-cast-clocks-in-2
-cast-clocks-in-2 c = search needs
-
 clocks-in-requires : tie.Need-clocks-in-requires
-clocks-in-requires c κs = search needs
+clocks-in-requires c κs =
+    let w = found-within _ _ _ _ (ap saidFound (sym (c .before .g .given .1)) ∙ c .before .before .before .category .ensures) in
+    (omega (arith, w .0, w .1), omega (arith, w .0, w .1))
 
 enum-told : tie.Need-enum-told
 enum-told c = search needs
@@ -39,7 +37,7 @@ no-clocks-requires-2 c κs = search needs
 returns : tie.Need-returns
 unfolding clocksOf
 returns c =
-    let f = ap saidFound (sym (c .before .before .before .before .g .given .1)) ∙ c .before .before .before .before .before .before .category .ensures in
+    let f = ap saidFound (sym (c .before .before .g .given .1)) ∙ c .before .before .before .before .category .ensures in
     c .clocks-in .ensures ∙ ap (back clockZero clockMost) (in-at _ _ _ _ f)
 
 returns-2 : tie.Need-returns-2
@@ -60,8 +58,6 @@ distributed-clocks-spec =
     (tie.spec
     category-requires
     enum-known-g
-    cast-clocks-in
-    cast-clocks-in-2
     clocks-in-requires
     enum-told
     no-clocks-requires

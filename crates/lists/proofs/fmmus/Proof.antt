@@ -1,6 +1,8 @@
 -- `fmmus` lists the range that the search found.
 use mathlib.Core.Path.{ap, sym, _∙_}
+use native.Mathlib.Omega.{arith}
 use Rattle.category.specs.Answers.{saidFound}
+use Rattle.category.proofs.First.{found-within}
 use Rattle.lists.specs.Records.{back}
 use Rattle.lists.specs.Fmmus.{fmmuMost, usagesOf}
 use Rattle.lists.specs.Answers.{backFmmus}
@@ -15,14 +17,10 @@ category-requires c κs = search needs
 enum-known-g : tie.Need-enum-known-g
 enum-known-g c = search needs
 
-cast-usages-in : tie.Need-cast-usages-in
-cast-usages-in c = search needs
-
-cast-usages-in-2 : tie.Need-cast-usages-in-2
-cast-usages-in-2 c = search needs
-
 usages-in-requires : tie.Need-usages-in-requires
-usages-in-requires c κs = search needs
+usages-in-requires c κs =
+    let w = found-within _ _ _ _ (ap saidFound (sym (c .before .g .given .1)) ∙ c .before .before .before .category .ensures) in
+    (omega (arith, w .0, w .1), omega (arith, w .0, w .1))
 
 enum-told : tie.Need-enum-told
 enum-told c = search needs
@@ -39,7 +37,7 @@ no-fmmus-requires-2 c κs = search needs
 returns : tie.Need-returns
 unfolding usagesOf
 returns c =
-    let f = ap saidFound (sym (c .before .before .before .before .g .given .1)) ∙ c .before .before .before .before .before .before .category .ensures in
+    let f = ap saidFound (sym (c .before .before .g .given .1)) ∙ c .before .before .before .before .category .ensures in
     c .usages-in .ensures ∙ ap (back 0 fmmuMost) (in-at _ _ _ _ f)
 
 returns-2 : tie.Need-returns-2
@@ -60,8 +58,6 @@ fmmus-spec =
     (tie.spec
     category-requires
     enum-known-g
-    cast-usages-in
-    cast-usages-in-2
     usages-in-requires
     enum-told
     no-fmmus-requires

@@ -1,6 +1,8 @@
 -- `find_general` decodes the range that the search found.
 use mathlib.Core.Path.{ap, sym, _∙_}
+use native.Mathlib.Omega.{arith}
 use Rattle.category.specs.Answers.{saidFound}
+use Rattle.category.proofs.First.{found-within}
 use Rattle.sii.specs.General.{generalFound}
 use Rattle.refusal.proofs.On.{on2-gives, on2-absent, on2-refuses}
 use borrow.Author.Needs.{needs}
@@ -13,14 +15,10 @@ category-requires c κs = search needs
 enum-known-g : tie.Need-enum-known-g
 enum-known-g c = search needs
 
-cast-general-in : tie.Need-cast-general-in
-cast-general-in c = search needs
-
-cast-general-in-2 : tie.Need-cast-general-in-2
-cast-general-in-2 c = search needs
-
 general-in-requires : tie.Need-general-in-requires
-general-in-requires c κs = search needs
+general-in-requires c κs =
+    let w = found-within _ _ _ _ (ap saidFound (sym (c .before .g .given .1)) ∙ c .before .before .before .category .ensures) in
+    omega (arith, w .0)
 
 enum-told : tie.Need-enum-told
 enum-told c = search needs
@@ -31,7 +29,7 @@ enum-known-x c = search needs
 returns : tie.Need-returns
 unfolding generalFound
 returns c =
-    c .general-in .ensures ∙ on2-gives _ _ _ _ (ap saidFound (sym (c .before .before .before .before .g .given .1)) ∙ c .before .before .before .before .before .before .category .ensures)
+    c .general-in .ensures ∙ on2-gives _ _ _ _ (ap saidFound (sym (c .before .before .g .given .1)) ∙ c .before .before .before .before .category .ensures)
 
 returns-2 : tie.Need-returns-2
 unfolding generalFound
@@ -47,8 +45,6 @@ find-general-spec =
     (tie.spec
     category-requires
     enum-known-g
-    cast-general-in
-    cast-general-in-2
     general-in-requires
     enum-told
     enum-known-x

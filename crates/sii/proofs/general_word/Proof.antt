@@ -1,6 +1,8 @@
 -- `general_word` reads in the range that the search found, and makes not found a refusal.
 use mathlib.Core.Path.{ap, sym, _∙_}
+use native.Mathlib.Omega.{arith}
 use Rattle.category.specs.Answers.{saidFound}
+use Rattle.category.proofs.First.{found-within}
 use Rattle.sii.specs.General.{needed, generalWord}
 use Rattle.refusal.proofs.On.{on2-gives, on2-refuses}
 use borrow.Author.Needs.{needs}
@@ -13,14 +15,10 @@ category-requires c κs = search needs
 enum-known-g : tie.Need-enum-known-g
 enum-known-g c = search needs
 
-cast-word-in : tie.Need-cast-word-in
-cast-word-in c = search needs
-
-cast-word-in-2 : tie.Need-cast-word-in-2
-cast-word-in-2 c = search needs
-
 word-in-requires : tie.Need-word-in-requires
-word-in-requires c κs = search needs
+word-in-requires c κs =
+    let w = found-within _ _ _ _ (ap saidFound (sym (c .before .g .given .1)) ∙ c .before .before .before .category .ensures) in
+    (omega (arith, w .0), search needs)
 
 enum-told : tie.Need-enum-told
 enum-told c = search needs
@@ -31,7 +29,7 @@ enum-known-x c = search needs
 returns : tie.Need-returns
 unfolding generalWord needed
 returns c =
-    c .word-in .ensures ∙ on2-gives _ _ _ _ (ap needed (ap saidFound (sym (c .before .before .before .before .g .given .1)) ∙ c .before .before .before .before .before .before .category .ensures))
+    c .word-in .ensures ∙ on2-gives _ _ _ _ (ap needed (ap saidFound (sym (c .before .before .g .given .1)) ∙ c .before .before .before .before .category .ensures))
 
 returns-2 : tie.Need-returns-2
 unfolding generalWord needed
@@ -47,8 +45,6 @@ general-word-spec =
     (tie.spec
     category-requires
     enum-known-g
-    cast-word-in
-    cast-word-in-2
     word-in-requires
     enum-told
     enum-known-x

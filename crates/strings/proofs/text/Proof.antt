@@ -12,16 +12,14 @@ enum-known-place c = search needs
 cast-lay-text : tie.Need-cast-lay-text
 cast-lay-text c = search needs
 
-cast-lay-text-2 : tie.Need-cast-lay-text-2
-cast-lay-text-2 c = search needs
-
 lay-text-requires : tie.Need-lay-text-requires
 lay-text-requires c κs =
     let q = c .before .before .before .before .before .before .pre in
-    (search needs, rw (c .before .before .place .given .1) at (q .1), q .0)
+    let s = rw (c .before .before .place .given .1) at (q .1) in
+    (s .1, s .0, q .0)
 
-cast-t14 : tie.Need-cast-t14
-cast-t14 c = search needs
+cast-t13 : tie.Need-cast-t13
+cast-t13 c = search needs
 
 enum-told : tie.Need-enum-told
 enum-told c = search needs
@@ -50,9 +48,8 @@ text-spec =
     (tie.spec
     enum-known-place
     cast-lay-text
-    cast-lay-text-2
     lay-text-requires
-    cast-t14
+    cast-t13
     enum-told
     enum-known-place-2
     same-length

@@ -14,12 +14,6 @@ mul-end c = search needs
 add-end : tie.Need-add-end
 add-end c = search needs
 
-cast-t9 : tie.Need-cast-t9
-cast-t9 c = search needs
-
-cast-t10 : tie.Need-cast-t10
-cast-t10 c = search needs
-
 returns : tie.Need-returns
 unfolding newSaid
 returns c = search tests
@@ -29,4 +23,4 @@ unfolding newSaid
 returns-2 c = search tests
 
 pub new-spec : {M : Type 1} → statement M
-new-spec = tie.close (tie.spec mul-from mul-end add-end cast-t9 cast-t10 returns returns-2)
+new-spec = tie.close (tie.spec mul-from mul-end add-end returns returns-2)

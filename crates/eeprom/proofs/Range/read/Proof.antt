@@ -13,20 +13,17 @@ left-requires c κs = search needs
 lesser-requires : tie.Need-lesser-requires
 lesser-requires c κs = search needs
 
-cast-read-chunks : tie.Need-cast-read-chunks
-cast-read-chunks c = search needs
-
 read-chunks-requires : tie.Need-read-chunks-requires
 read-chunks-requires c κs = search needs
+
+cast-t15 : tie.Need-cast-t15
+cast-t15 c = search needs
 
 cast-t16 : tie.Need-cast-t16
 cast-t16 c = search needs
 
-cast-t17 : tie.Need-cast-t17
-cast-t17 c = search needs
-
-add-t18 : tie.Need-add-t18
-add-t18 c = search needs
+add-t17 : tie.Need-add-t17
+add-t17 c = search needs
 
 same-length : tie.Need-same-length
 same-length c = search needs
@@ -49,11 +46,10 @@ read-spec =
     sound-requires
     left-requires
     lesser-requires
-    cast-read-chunks
     read-chunks-requires
+    cast-t15
     cast-t16
-    cast-t17
-    add-t18
+    add-t17
     same-length
     returns
     returns-2)

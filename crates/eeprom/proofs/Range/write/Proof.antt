@@ -1,8 +1,7 @@
 -- `Range::write` tests its arguments and calls `write_words`.
-use mathlib.Core.Path.{_≡_, sym, _∙_}
-use Prim.Native.Nat.{_%_}
+use mathlib.Core.Path.{sym, _∙_}
 use Rattle.eeprom.specs.Range.{writeSaid, writePos, writeImage}
-use Rattle.eeprom.proofs.Laws.{fine-even}
+use Rattle.eeprom.proofs.Laws.{bounds-of, fine-bounds}
 use borrow.Author.Needs.{needs}
 use Rattle.eeprom.proofs.Range.write.Statement.{statement}
 use Rattle.eeprom.proofs.Range.write.Tie as tie
@@ -13,8 +12,7 @@ sound-requires c κs = search needs
 write-words-requires : tie.Need-write-words-requires
 write-words-requires c κs =
     let a = c .before .before .before .before .before .before .args in
-    let e : a .self .end % 2 ≡ 0 = fine-even (a .image .now) (a .self .end) (sym (c .before .before .sound .ensures) ∙ c .before .if1 .taken) in
-    search needs
+    bounds-of _ _ (fine-bounds (a .image .now) (a .self .«byte_pos») (a .self .end) (sym (c .before .before .sound .ensures) ∙ c .before .if1 .taken)) .ends
 
 same-length : tie.Need-same-length
 same-length c = search needs
