@@ -23,7 +23,7 @@ it answers by the rules as they were before that request (see amended.py).
 Where things are:
 
     amended.py   which amendments of the rules are in force
-    refusal.py   the fourteen refusals
+    refusal.py   the refusals
     crc.py       the checksum
     eeprom.py    the EEPROM range
     category.py  finding a category
@@ -32,6 +32,7 @@ Where things are:
     strings.py   strings, device name, description
     ports.py     ports, topology, delays
     frames.py    the builder and the frame reader
+    received.py  reading what came back, with the handles of its pushes
     spread.py    the spreading
     lines.py     reading words and printing answers
     requests.py  the table of requests

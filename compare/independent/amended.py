@@ -14,7 +14,7 @@ given more than once. The code asks here, by name.
 from contextlib import contextmanager
 
 # In the order in which they landed.
-NAMES = ("E1", "E4", "E10", "E6", "E7")
+NAMES = ("E1", "E4", "E10", "E6", "E7", "E9")
 
 _switched_off = set()
 

@@ -139,6 +139,11 @@ def frame_header(used):
 
 def read_frame(frame):
     """Each PDU's fields and payload place, in order."""
+    return list(pdus(frame))
+
+
+def pdus(frame):
+    """The same one by one, up to the first fault."""
     # "It demands two header bytes, type 1 (bit 11 isn't looked at)"
     refuse_unless(len(frame) >= FRAME_HEADER, BAD_FRAME)
     header = int.from_bytes(frame[:FRAME_HEADER], "little")
@@ -146,14 +151,12 @@ def read_frame(frame):
     # "length within the bytes given"; bytes past it are ignored.
     end = FRAME_HEADER + (header & LENGTH_BITS)
     refuse_unless(end <= len(frame), BAD_FRAME)
-    pdus = []
     place = FRAME_HEADER
     while place < end:
         pdu, place = _read_pdu(frame, place, end)
         # "more-follows on all but the last, ending at the length"
         refuse_unless(pdu[5] == int(place < end), BAD_FRAME)
-        pdus.append(pdu)
-    return pdus
+        yield pdu
 
 
 def _read_pdu(frame, place, end):

@@ -76,6 +76,39 @@ def data(word):
     return bytearray(unhexlify(word))
 
 
+class Listed:
+    """"A list is its count, then its items": rows of words of these kinds."""
+
+    LIMIT = 2_000
+
+    def __init__(self, *kinds):
+        self.kinds = kinds
+
+    def take(self, words):
+        count = _one(words, u16)
+        if count > self.LIMIT:
+            raise Unreadable
+        return [tuple([_one(words, kind) for kind in self.kinds])
+                for _ in range(count)]
+
+
+def values(words, kinds):
+    """What the words stand for, each by its kind. None is left over."""
+    left = iter(words)
+    taken = [kind.take(left) if isinstance(kind, Listed) else _one(left, kind)
+             for kind in kinds]
+    if next(left, None) is not None:
+        raise Unreadable
+    return taken
+
+
+def _one(words, kind):
+    word = next(words, None)
+    if word is None:
+        raise Unreadable
+    return kind(word)
+
+
 # --- Printing ---
 
 

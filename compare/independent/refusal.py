@@ -14,6 +14,10 @@ SUM = 11
 BAD_FRAME = 12
 NO_ROOM = 13
 BAD_ARGUMENT = 14
+WRONG_FRAME = 19
+WRONG_COMMAND = 20
+WRONG_INDEX = 21
+WRONG_LENGTH = 22
 
 # "Absent" is an answer, not a refusal.
 ABSENT = None
@@ -28,6 +32,6 @@ class Refusal(Exception):
         self.values = values
 
 
-def refuse_unless(holds, number):
+def refuse_unless(holds, number, *values):
     if not holds:
-        raise Refusal(number)
+        raise Refusal(number, *values)

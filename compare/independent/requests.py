@@ -1,11 +1,12 @@
 """The table of requests: for each, the kinds of its words and its answer."""
 
 from . import (
-    amended, category, crc, eeprom, frames, ports, setup, sii, spread, strings,
+    amended, category, crc, eeprom, frames, ports, received, setup, sii, spread,
+    strings,
 )
 from .lines import (
-    UNREADABLE, Unreadable, active, chunk, counted, data, lent, nothing,
-    position, record, said, u8, u16, u32,
+    UNREADABLE, Listed, Unreadable, active, chunk, counted, data, lent,
+    nothing, position, record, said, u8, u16, u32, values,
 )
 from .refusal import ABSENT
 
@@ -14,6 +15,7 @@ PORTS = (active, u32, u16) * 4
 STATE = (u16, u16, u16)
 COUNTED_STATE = STATE + (u8,)
 IMAGE = (data, chunk)
+HANDLES = Listed(u16, u16, u8, u8)
 
 
 def line_limit():
@@ -23,7 +25,7 @@ def line_limit():
 TABLE = {}
 
 # Words that a request added: before it they are unknown.
-ADDED_BY = {b"totalfrom": "E6"}
+ADDED_BY = {b"totalfrom": "E6", b"received": "E9"}
 
 
 def request(word, *kinds):
@@ -45,12 +47,10 @@ def answer(line):
         return UNREADABLE
     try:
         kinds, function = TABLE[words[0]]
-        if len(words) != len(kinds) + 1:
-            return UNREADABLE
-        values = [kind(word) for kind, word in zip(kinds, words[1:])]
+        taken = values(words[1:], kinds)
     except (KeyError, Unreadable):
         return UNREADABLE
-    return function(*values)
+    return function(*taken)
 
 
 # --- Checksum and EEPROM range ---
@@ -367,6 +367,11 @@ def _header(used):
 @request(b"frame", data)
 def _frame(frame):
     return said(counted(frames.read_frame), frame)
+
+
+@request(b"received", HANDLES, data)
+def _received(handles, frame):
+    return said(counted(received.received), handles, frame)
 
 
 @request(b"spread", u16, data, *COUNTED_STATE, u8, u32, data)

@@ -1385,6 +1385,208 @@ class Reader(Case):
                   " ".join(map(str, ["gives", 4] + expected)))
 
 
+class Received(Case):
+    # The two PDUs of the bench, as the two pushes gave their handles: start,
+    # whole size, index, command.
+    FIRST = packed("07 00 00 00 30 01 02 80 00 00 00 00 00 00")
+    SECOND = packed("05 01 01 10 20 01 02 00 00 00 08 00 00 00")
+    FRAME = "1c10" + FIRST + SECOND
+    HANDLES = "2 0 14 0 7 14 14 1 5"
+
+    def changed(self, place, bytes_):
+        """The frame with other bytes at a place."""
+        at = 2 * place
+        return self.FRAME[:at] + bytes_ + self.FRAME[at + len(bytes_):]
+
+    def gets(self, frame, answer):
+        self.says(f"received {self.HANDLES} {frame}", answer)
+
+    def test_as_it_went_out(self):
+        # The header has 2 bytes, a PDU 10 before its payload.
+        self.gets(self.FRAME, "gives 2 12 2 0 26 2 0")
+
+    def test_payloads_and_counters(self):
+        # PDUs at 2 and 16: payloads at 12 and 26, counters at 14 and 28.
+        self.gets("1c10" + packed("07 00 00 00 30 01 02 80 00 00 ab cd 03 00")
+                  + packed("05 01 01 10 20 01 02 00 00 00 ff ff fe ff"),
+                  "gives 2 12 2 3 26 2 65534")
+
+    def test_not_compared(self):
+        # Addresses, flag bits 11 to 14 with the circulating bit, IRQ, the
+        # frame header's bit 11, and a handle's start.
+        self.says("received 2 999 14 0 7 0 14 1 5 1c18"
+                  + packed("07 00 ff ff 31 01 02 f8 34 12 00 00 01 00")
+                  + packed("05 01 02 10 20 01 02 78 ff ff 08 00 02 00"),
+                  "gives 2 12 2 1 26 2 2")
+
+    def test_no_pdus(self):
+        self.says("received 0 0010", "gives 0")
+        self.says("received 0 0018", "gives 0")
+        self.says("received 0 0010ffff", "gives 0")
+
+    def test_header(self):
+        for frame in ("-", "1c", "0000", "1c00" + self.FRAME[4:],
+                      "1c20" + self.FRAME[4:], "1d10" + self.FRAME[4:],
+                      "ff17" + self.FRAME[4:], self.FRAME[:-2]):
+            self.gets(frame, "refuses 19 0")
+            self.says(f"received 0 {frame}", "refuses 19 0")
+
+    def test_bytes_past_the_length(self):
+        self.gets(self.FRAME + "07", "gives 2 12 2 0 26 2 0")
+        self.gets(self.FRAME + self.FIRST * 9, "gives 2 12 2 0 26 2 0")
+        self.says(f"received 0 0010{self.FIRST}", "gives 0")
+
+    def test_does_not_end_rightly(self):
+        # More-follows: gone from the first, set in the last.
+        self.gets(self.changed(9, "00"), "refuses 19 0")
+        self.gets(self.changed(23, "80"), "refuses 19 1")
+        # The first is 15 bytes beyond the frame, or ends with it and says
+        # more; the second has a byte too many, or one too few.
+        self.gets(self.changed(8, "1f"), "refuses 19 0")
+        self.gets(self.changed(8, "10"), "refuses 19 0")
+        self.gets(self.changed(22, "03"), "refuses 19 1")
+        self.gets(self.changed(22, "01"), "refuses 19 1")
+        # 11 bytes are left for the second; 1; 11 for the first.
+        for length, place in (("19", 1), ("0f", 1), ("0b", 0), ("01", 0)):
+            self.gets(length + self.FRAME[2:], f"refuses 19 {place}")
+
+    def test_without_a_handle(self):
+        for handles, place in (("0", 0), ("1 0 14 0 7", 1)):
+            self.says(f"received {handles} {self.FRAME}",
+                      f"refuses 19 {place}")
+        # As the frame is read no further, what lies behind it does not count.
+        self.says(f"received 0 {self.changed(23, '80')}", "refuses 19 0")
+
+    def test_spare_handle(self):
+        for spare in ("0 0 0 0", "28 14 2 7", "28 14 2 7 42 14 3 7"):
+            count = 2 + len(spare.split()) // 4
+            self.says(f"received {count} 0 14 0 7 14 14 1 5 {spare} "
+                      + self.FRAME, "refuses 19 2")
+        self.says("received 1 0 14 0 7 0010", "refuses 19 0")
+        self.says("received 2 0 14 0 7 14 14 1 5 0e10"
+                  + self.FIRST.replace("0280", "0200"), "refuses 19 1")
+
+    def test_command(self):
+        self.gets(self.changed(2, "08"), "refuses 20 0")
+        self.gets(self.changed(16, "04"), "refuses 20 1")
+
+    def test_index(self):
+        self.gets(self.changed(3, "01"), "refuses 21 0")
+        self.gets(self.changed(17, "00"), "refuses 21 1")
+
+    def test_length(self):
+        # A payload byte more in the first and one less in the second, so that
+        # the frame is as long as before.
+        moved = ("1c10" + packed("07 00 00 00 30 01 03 80 00 00 00 00 00 00 00")
+                 + packed("05 01 01 10 20 01 01 00 00 00 08 00 00"))
+        self.gets(moved, "refuses 22 0")
+        self.says(f"received 2 0 15 0 7 14 14 1 5 {moved}", "refuses 22 1")
+        self.says(f"received 2 0 15 0 7 14 13 1 5 {moved}",
+                  "gives 2 12 3 0 27 1 0")
+        # A handle's size is the whole PDU's.
+        for size in (0, 2, 13, 15, 2062, 65535):
+            self.says(f"received 2 0 {size} 0 7 14 14 1 5 {self.FRAME}",
+                      "refuses 22 0")
+
+    def test_order_within_a_pdu(self):
+        # The second: all four; then its end is right; then its command; then
+        # its index.
+        self.says(f"received 2 0 14 0 7 14 15 2 6 {self.changed(23, '80')}",
+                  "refuses 19 1")
+        for handle, number in (("14 15 2 6", 20), ("14 15 2 5", 21),
+                               ("14 15 1 5", 22), ("14 14 2 6", 20)):
+            self.says(f"received 2 0 14 0 7 {handle} {self.FRAME}",
+                      f"refuses {number} 1")
+
+    def test_first_in_frame_order(self):
+        # The first's length before the second's end, command and missing
+        # handle, and before a spare one.
+        self.says(f"received 2 0 15 0 7 14 14 1 5 {self.changed(23, '80')}",
+                  "refuses 22 0")
+        self.says(f"received 2 0 15 0 7 14 14 1 6 {self.FRAME}",
+                  "refuses 22 0")
+        self.says(f"received 1 0 15 0 7 {self.FRAME}", "refuses 22 0")
+        self.says(f"received 3 0 14 0 7 14 14 1 6 0 0 0 0 {self.FRAME}",
+                  "refuses 20 1")
+        # The header before all.
+        self.says("received 3 0 14 0 9 14 14 1 6 0 0 0 0 " + self.FRAME[:-2],
+                  "refuses 19 0")
+
+    def test_index_that_repeats(self):
+        # 256 pushes on, with refused ones between, comes the same index.
+        more = packed("0c 05 00 00 00 00 01 80 00 00 aa 01 00")
+        last = packed("0c 05 00 00 00 00 01 00 00 00 bb 02 00")
+        self.says(f"received 2 0 13 5 12 13 13 5 12 1a10{more}{last}",
+                  "gives 2 12 1 1 25 1 2")
+        # The place decides: of two with one index, lengths 1 and 0.
+        empty = packed("0c 05 00 00 00 00 00 00 00 00 02 00")
+        self.says(f"received 2 0 13 5 12 13 12 5 12 1910{more}{empty}",
+                  "gives 2 12 1 1 25 0 2")
+        self.says(f"received 2 13 12 5 12 0 13 5 12 1910{more}{empty}",
+                  "refuses 22 0")
+
+    def test_any_command(self):
+        self.says("received 1 0 12 255 255 0c10"
+                  + packed("ff ff 00 00 00 00 00 00 00 00 00 00"),
+                  "gives 1 12 0 0")
+
+    def test_full_frames(self):
+        # 170 PDUs of 12 bytes are 2,040; a length of 2,035 fills 2,047.
+        more = packed("00 00 00 00 00 00 00 80 00 00 00 00")
+        frame = "f817" + more * 169 + "00" * 12
+        handles = "0 12 0 0 "
+        given = "".join(f" {12 * k} 0 0" for k in range(1, 171))
+        self.says("received 170 " + handles * 170 + frame,
+                  "gives 170" + given)
+        self.says("received 169 " + handles * 169 + frame, "refuses 19 169")
+        self.says("received 171 " + handles * 171 + frame, "refuses 19 170")
+        self.says("received 2000 " + handles * 2000 + frame, "refuses 19 170")
+        self.says("received 1 0 2047 0 0 ff17" + packed(
+            "00 00 00 00 00 00 f3 07 00 00") + "ab" * 2035 + "0100",
+            "gives 1 12 2035 1")
+
+    def test_lines(self):
+        handles = "0 12 0 0 "
+        for line in ("received 2001 " + handles * 2001 + "0010",
+                     "received 65536 0010", "received 1 0010",
+                     "received 0 0 12 0 0 0010", "received 1 0 12 0 0010",
+                     "received 1 0 12 0 0 0 0010", "received 0010", "received",
+                     "received 0", "received 0 001", "received 0 0010 0010",
+                     "received 1 65536 12 0 0 0010",
+                     "received 1 0 65536 0 0 0010",
+                     "received 1 0 12 256 0 0010",
+                     "received 1 0 12 0 256 0010", "received - 0010"):
+            self.says(line, "refuses 14")
+        self.says("received 000 0010", "gives 0")
+        self.says("received 1 65535 65535 255 255 0010", "refuses 19 0")
+
+    def test_what_was_built(self):
+        """Pushes, some refused; then payloads and counters are changed."""
+        chance = random.Random(9)
+        for _ in range(200):
+            area, state = "00" * chance.randrange(12, 120), "0 0 0 254"
+            handles, expected = [], []
+            for _ in range(chance.randrange(1, 9)):
+                data = chance.randbytes(chance.randrange(30)).hex() or "-"
+                said, after = ask(f"handle {area} {state} "
+                                  f"{chance.randrange(15)} 77 {data} "
+                                  f"{chance.choice((0, 9))}").split(" @ ")
+                state, area = after.split(" | ")
+                if said != "refuses 8":
+                    handles.append(said.split()[1:])
+            used = int(state.split()[0])
+            frame = bytearray.fromhex(f"{used:02x}10{area}")
+            for place, size, _, _ in handles:
+                start, end = int(place) + 12, int(place) + int(size)
+                frame[start:end + 2] = chance.randbytes(end + 2 - start)
+                expected += [start, end - start,
+                             int.from_bytes(frame[end:end + 2], "little")]
+            words = [word for handle in handles for word in handle]
+            self.says(" ".join(["received", str(len(handles)), *words,
+                                frame.hex()]),
+                      " ".join(map(str, ["gives", len(handles), *expected])))
+
+
 class Spreading(Case):
     def test_bytes(self):
         # Two areas of 14 take 2 bytes each. The last area is opened, the
@@ -1628,6 +1830,11 @@ class Amended(Case):
         self.before("E6", f"totalfrom {ALL_FOUR}", *["refuses 14"] * 2)
         self.before("E6", f"total {ALL_FOUR}", *["gives 300"] * 2)
 
+        self.before("E9", "received 0 0010", "refuses 14", "gives 0")
+        self.before("E9", "received 0 -", "refuses 14", "refuses 19 0")
+        self.before("E9", "received 0", *["refuses 14"] * 2)
+        self.before("E9", "frame 0010", *["gives 0"] * 2)
+
     def test_larger_images(self):
         for length, then in ((65_536, "gives 0"), (65_537, "refuses 14"),
                              (131_072, "refuses 14")):
@@ -1729,7 +1936,11 @@ class Refusals(Case):
                 (11, "between 1 0 0 1 4294967295 0 1 0 0 1 1 0 2"),
                 (12, "frame -"),
                 (13, "spread 1 00 0 0 0 0 10 0 00"),
-                (14, "category - 4 0")):
+                (14, "category - 4 0"),
+                (19, "received 0 -"),
+                (20, "received 1 0 12 0 1 0c10" + "00" * 12),
+                (21, "received 1 0 12 1 0 0c10" + "00" * 12),
+                (22, "received 1 0 13 0 0 0c10" + "00" * 12)):
             self.starts(line, f"refuses {number}")
 
 
@@ -1821,6 +2032,7 @@ class Lines(Case):
                 "push 00 0 0 0 0 0 0 00 0", "handle 00 0 0 0 0 0 0 00 0",
                 "rest 00 0 0 0 0 0 0 00",
                 "canpush 1 0 0 0 1", "header 1", "frame 0010",
+                "received 1 0 12 0 0 0c10" + "00" * 12,
                 "spread 1 00 0 0 0 0 10 0 -")
         self.assertEqual({line.split(" ")[0] for line in good},
                          {word.decode() for word in requests.TABLE})
@@ -1837,6 +2049,7 @@ class Lines(Case):
         chance = random.Random(5)
         good = [f"assign {ALL_FOUR} 1", "push " + "00" * 30
                 + " 12 1 0 0 10 77 0102 0", "frame 0c10" + "00" * 12,
+                f"received {Received.HANDLES} {Received.FRAME}",
                 f"string {image((10, BENCH_STRINGS))} 4 2 0000",
                 f"general {image((30, GENERAL))} 8",
                 "spread 20 " + "00" * 40 + " 0 0 0 0 10 0 010203"]

@@ -13,7 +13,7 @@ Where things are:
     cases/          the requests, by topic
     differences.py  a rule for each entry of docs/DIFFERENCES.md
     allowed.py      for each request, which answers it may change
-    looked.py       what a request's image and ports hold, for these two
+    looked.py       what a request's image, ports and frame hold, for these two
     listed.py       the entries' own examples, as the document gives them
     bench.py        the cases of compare/bench.txt
     shrink.py       a smaller request that shows the same difference

@@ -6,7 +6,7 @@ line in it may be answered as before too. `request` has the line's words by
 name, and the line itself.
 """
 
-from .cases import ports, ranges, sii, strings
+from .cases import ports, ranges, received, sii, strings
 from .looked import (
     active_links, empty_strings, ends_high, entry_place, string_count,
     string_index,
@@ -91,3 +91,9 @@ def _beyond_the_old_bounds(request):
     return (ends_high(request) or len(request.line) > LINE_WAS
             or any(isinstance(value, bytearray) and len(value) > BYTES_WERE
                    for value in vars(request).values()))
+
+
+@may_change("E9", received)
+def _what_came_back(request):
+    """The word that was added, and no other."""
+    return request.kind == "received"

@@ -9,8 +9,9 @@ from types import SimpleNamespace
 
 from .looked import (
     END_ABOVE, HIGHEST, IMAGE_LIMIT, MOVE_PASSES, PORT_AT, active_links,
-    active_times, empty_strings, ends_high, entry_place, rises_before,
-    searches, skip_passes, string_count, string_index, word_at,
+    active_times, by_handles_alone, empty_strings, ends_high, entry_place,
+    frame_body, pdu_at, rises_before, searches, skip_passes, string_count,
+    string_index, word_at,
 )
 from .request import refused, shown, unchanged
 
@@ -252,6 +253,49 @@ def linked_to_first(request, places):
     return "absent" + unchanged(request)
 
 
+# --- Frames that came back ---
+
+
+def refused_at(request, oracle, ours, number):
+    """The place of this refusal of ours, where the Rust goes by the handles
+    alone; else None."""
+    if request.kind != "received":
+        return None
+    body = frame_body(request.frame)
+    words = ours.split(" ")
+    if (body is None or words[:2] != ["refuses", str(number)]
+            or oracle != by_handles_alone(request.handles, body)):
+        return None
+    return int(words[2])
+
+
+@rule("D22")
+def _does_not_end_rightly(request, oracle, ours):
+    place = refused_at(request, oracle, ours, 19)
+    if place is None:
+        return False
+    pdu = pdu_at(frame_body(request.frame), place)
+    return pdu is not None and not pdu.ends_rightly()
+
+
+@rule("D23")
+def _pdu_without_a_handle(request, oracle, ours):
+    place = refused_at(request, oracle, ours, 19)
+    if place is None or place != len(request.handles):
+        return False
+    pdu = pdu_at(frame_body(request.frame), place)
+    return pdu is not None and pdu.ends_rightly()
+
+
+@rule("D24")
+def _length_not_the_handles(request, oracle, ours):
+    place = refused_at(request, oracle, ours, 22)
+    if place is None:
+        return False
+    size = request.handles[place][1]
+    return pdu_at(frame_body(request.frame), place).length + 12 != size
+
+
 # --- Where the Rust has no answer ---
 
 OUR_CATEGORIES = {10, 30, 40, 41, 42, 50, 51, 60}
@@ -267,6 +311,9 @@ def silent(request):
     if kind in ("frame", "spread", "pdi", "bootmail", "version", "checksum",
                 "clocks", "inside", "physport", "physaddr", "totalfrom"):
         return True
+    if kind == "received":
+        # It passes over an empty frame.
+        return frame_body(request.frame) == b""
     if kind == "byte" and request.pos >= request.end:
         # D20: the Rust reads on, and is not asked.
         return True

@@ -1,5 +1,6 @@
-"""What a request's image and ports hold, so far as a rule of differences.py or
-a class of allowed.py looks at it. Written apart from the three programs."""
+"""What a request's image, ports and frame hold, so far as a rule of
+differences.py or a class of allowed.py looks at it. Written apart from the
+three programs."""
 
 # The Rust counts words and bytes in 16 bits; we count words so, and bytes up
 # to the end of the largest image.
@@ -145,3 +146,67 @@ def string_index(request):
     if not isinstance(general, tuple):
         return None
     return byte_at(request.image, general[0] + INDEX_AT[request.kind])
+
+
+def frame_body(frame):
+    """The bytes of a frame's PDUs; None where its header is at fault."""
+    if len(frame) < 2 or frame[1] >> 4 != 1:
+        return None
+    end = 2 + frame[0] + 256 * (frame[1] & 7)
+    return frame[2:end] if end <= len(frame) else None
+
+
+class Pdu:
+    """The one that opens these bytes, the rest of a frame."""
+
+    def __init__(self, rest):
+        self.whole = len(rest) >= 10
+        if self.whole:
+            self.command, self.index = rest[0], rest[1]
+            self.length = rest[6] + 256 * (rest[7] & 7)
+            self.more = rest[7] >> 7
+        self.fits = self.whole and 12 + self.length <= len(rest)
+        if self.fits:
+            behind = 10 + self.length
+            self.counter = rest[behind] + 256 * rest[behind + 1]
+            self.last = behind + 2 == len(rest)
+
+    def ends_rightly(self):
+        return self.fits and self.last != self.more
+
+
+def pdu_at(body, place):
+    """The PDU at a place, where all before it fit; None behind the last."""
+    start = payload_at(body, place) - 12
+    return Pdu(body[start:]) if start < len(body) else None
+
+
+def payload_at(body, place):
+    """Where in the frame its payload lies."""
+    start = 0
+    for _ in range(place):
+        start += 12 + Pdu(body[start:]).length
+    return start + 12
+
+
+def by_handles_alone(handles, body):
+    """The Rust's answer: it asks for the PDU of each handle, and tests
+    command, index, and whether the PDU fits, in this order."""
+    text = f"gives {len(handles)}"
+    for place, (_, _, index, command) in enumerate(handles):
+        pdu = pdu_at(body, place)
+        number = fault_of(pdu, index, command)
+        if number:
+            return f"refuses {number} {place}"
+        text += f" {payload_at(body, place)} {pdu.length} {pdu.counter}"
+    return text
+
+
+def fault_of(pdu, index, command):
+    if pdu is None or not pdu.whole:
+        return 19
+    if pdu.command != command:
+        return 20
+    if pdu.index != index:
+        return 21
+    return 0 if pdu.fits else 19

@@ -1,8 +1,9 @@
 """Request and answer lines: put together, and taken apart."""
 
+from itertools import chain
 from types import SimpleNamespace
 
-from independent.lines import Unreadable
+from independent.lines import Unreadable, values as values_of
 from independent.requests import TABLE
 
 PORTS = tuple(f"{field}{place}" for place in range(4)
@@ -10,7 +11,8 @@ PORTS = tuple(f"{field}{place}" for place in range(4)
 STATE = ("used", "count", "last")
 IMAGE = ("image", "chunk")
 
-# The names of a request's words, in DESK.md's order.
+# The names of a request's words, in DESK.md's order. A list has one name: its
+# count and its items.
 WORDS = {
     "crc": ("data",),
     "new": ("word", "words"),
@@ -64,6 +66,7 @@ WORDS = {
     "canpush": ("size",) + STATE + ("length",),
     "header": ("used",),
     "frame": ("frame",),
+    "received": ("handles", "frame"),
     "spread": ("size", "areas") + STATE + ("index", "command", "address",
                                            "image"),
 }
@@ -72,13 +75,15 @@ OTHER = "(other)"
 
 
 def line(kind, *words):
-    """A request line from numbers and bytes."""
+    """A request line from numbers, bytes and lists of rows of numbers."""
     return " ".join([kind, *map(shown, words)]).encode()
 
 
 def shown(word):
     if isinstance(word, (bytes, bytearray)):
         return word.hex() or "-"
+    if isinstance(word, (list, tuple)):
+        return " ".join(map(str, [len(word), *chain(*word)]))
     return str(word)
 
 
@@ -92,14 +97,14 @@ def parsed(request):
     """The line's values by name, or None where it can't be read."""
     words = request.split(b" ")
     kind = kind_of(request)
-    if kind == OTHER or len(words) != len(WORDS[kind]) + 1:
+    if kind == OTHER:
         return None
     readers, _ = TABLE[words[0]]
     try:
-        values = [read(word) for read, word in zip(readers, words[1:])]
+        taken = values_of(words[1:], readers)
     except Unreadable:
         return None
-    return SimpleNamespace(kind=kind, **dict(zip(WORDS[kind], values)))
+    return SimpleNamespace(kind=kind, **dict(zip(WORDS[kind], taken)))
 
 
 def answer_class(answer):

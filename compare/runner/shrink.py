@@ -23,6 +23,8 @@ def smaller(request):
     words = request.split(b" ")
     if words[0] == b"spread" and len(words) > 2:
         yield from smaller_rows(words)
+    if words[0] == b"received" and len(words) > 6:
+        yield from fewer_handles(words)
     for place, word in enumerate(words):
         for less in [*fewer_bytes(word), *lower_numbers(word)]:
             if (len(less), less) < (len(word), word):
@@ -43,6 +45,15 @@ def smaller_rows(words):
     for count in range(1, areas // int(size)):
         row = b"00" * (int(size) * count)
         yield b" ".join([words[0], size, row, *words[3:]])
+
+
+def fewer_handles(words):
+    """Of a list, the count and an item only go together."""
+    if not words[1].isdigit():
+        return
+    for place in range(2, len(words) - 4, 4):
+        yield b" ".join([words[0], b"%d" % max(0, int(words[1]) - 1),
+                         *words[2:place], *words[place + 4:]])
 
 
 def fewer_bytes(word):

@@ -5,7 +5,8 @@ from collections import Counter
 from .request import answer_class, kind_of
 
 # Their first value is a count, and 0 of them is a shallow answer.
-COUNTED = ("sms", "usages", "fmmus", "fmmuex", "pdos", "frame", "spread")
+COUNTED = ("sms", "usages", "fmmus", "fmmuex", "pdos", "frame",
+           "received", "spread")
 
 
 class Tally:

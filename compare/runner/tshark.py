@@ -1,5 +1,6 @@
 """`compare/tshark`: tshark's EtherCAT dissector reads the frames that were
-built, and must see what our reader sees."""
+built, and must see what our reader sees, and the lengths and working counters
+that `received` gives for handles made of what tshark saw."""
 
 import argparse
 import os
@@ -16,6 +17,7 @@ from .request import afterwards, line, parsed, values
 
 ETHERNET = b"\xff" * 6 + b"\x10" * 6 + b"\x88\xa4"
 ETHERNET_LEAST = 60
+OVERHEAD = 12
 LOGICAL = (10, 11, 12)
 
 # One value a PDU, but for the first two and for the addresses: a logical one
@@ -58,16 +60,21 @@ def compared(program, count, seed):
     """How many frames tshark reads otherwise than this program does."""
     frames = built(program, count, seed)
     readings = program.ask([line("frame", frame) for frame in frames])
+    dissections = dissected(frames)
+    returns = program.ask([line("received", *handles(theirs), frame)
+                           for frame, theirs in zip(frames, dissections)])
     faults = pdus = counters = 0
-    for frame, reading, theirs in zip(frames, readings, dissected(frames)):
+    for frame, reading, back, theirs in zip(frames, readings, returns,
+                                            dissections):
         ours = as_tshark_says(frame, reading)
         if ours:
             pdus += len(ours[1])
             counters += sum(pdu[-1] != 0 for pdu in ours[1])
-        if ours != theirs:
+        if ours != theirs or given_back(back) != came_back(theirs):
             faults += 1
             if faults <= 5:
                 print(f"frame {frame.hex()}\n  {program.name}: {reading}\n"
+                      f"  {program.name}, received: {back}\n"
                       f"  tshark: {theirs}")
     print(f"{program.name}: {len(frames)} frames with {pdus} PDUs, "
           f"{counters} working counters other than 0; tshark reads {faults} "
@@ -140,6 +147,28 @@ def as_tshark_says(frame, reading):
     # The payload's place is no field of tshark's.
     pdus = [tuple(row[:7] + row[8:]) for row in rows]
     return (len(frame) - 2, 1), pdus
+
+
+def handles(theirs):
+    """How many PDUs tshark saw, and a handle for each."""
+    words, start = [len(theirs[1])], 0
+    for command, index, _, length, *_ in theirs[1]:
+        words += [start, length + OVERHEAD, index, command]
+        start += length + OVERHEAD
+    return words
+
+
+def came_back(theirs):
+    """Length and working counter of each PDU that tshark saw."""
+    return [(pdu[3], pdu[-1]) for pdu in theirs[1]]
+
+
+def given_back(answer):
+    """The same of an answer to `received`."""
+    given = values(answer)
+    if given is None:
+        return None
+    return list(zip(given[2::3], given[3::3]))
 
 
 def dissected(frames):

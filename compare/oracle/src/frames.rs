@@ -1,13 +1,13 @@
-//! `CreatedFrame`, of created_frame.rs, and the header of frame_header.rs.
+//! `CreatedFrame`, of created_frame.rs, `ReceivedFrame`, of received_frame.rs, and the header of frame_header.rs.
 //!
 //! A builder's state is put together by the Rust's own pushes, into an area of the same size; then the area's bytes and the index counter are set to the
 //! request's. A state to which no pushes lead has no answer. The state afterwards is read off the frame's own `Debug`.
 
 use crate::answer::{Off, Reply, ask, gives, record, refuses, slice};
-use crate::error::Error;
+use crate::error::{Error, PduError};
 use crate::pdu_loop::{CreatedFrame, PduTx};
 use crate::{Command, Reads, Writes};
-use lines::Words;
+use lines::{Unreadable, Words};
 
 const OVERHEAD: usize = CreatedFrame::PDU_OVERHEAD_BYTES;
 
@@ -173,6 +173,59 @@ pub fn frame(mut words: Words) -> Reply {
     words.bytes()?;
     words.end()?;
     Err(Off::None)
+}
+
+/// `N (START SIZE INDEX COMMAND)*N FRAME`: the Rust is asked for the PDU of each handle, in order. Its area is as long as the frame says. It passes over an
+/// empty frame and waits for another.
+pub fn received(mut words: Words) -> Reply {
+    let handles = handles(&mut words)?;
+    let frame = words.bytes()?;
+    words.end()?;
+    let body = match PduTx::body(&frame) {
+        Ok([]) => return Err(Off::None),
+        Ok(body) => body,
+        Err(_) => return Ok(wrong(Error::ReceiveFrame, 0)),
+    };
+    let bench = PduTx::bench(body.len());
+    let came = bench.received(body);
+    let mut values = vec![handles.len() as u32];
+    for (place, (size, index, command)) in handles.into_iter().enumerate() {
+        let place = u8::try_from(place).map_err(|_| Off::None)?;
+        match ask(|| came.pdu(place, index, command, size))? {
+            Ok([payload, length, counter]) => values.extend([FRAME_HEADER + payload, length, counter]),
+            Err(error) => return Ok(wrong(error, place)),
+        }
+    }
+    Ok(gives(&values))
+}
+
+/// A place is counted from the frame's first byte.
+const FRAME_HEADER: u32 = 2;
+
+/// A longer list can't be read.
+const HANDLES_MOST: u16 = 2_000;
+
+/// Size, index and command of each. The Rust's handle has no start.
+fn handles(words: &mut Words) -> Result<Vec<(usize, u8, u8)>, Unreadable> {
+    let count = words.u16()?;
+    if count > HANDLES_MOST {
+        return Err(Unreadable);
+    }
+    let mut handle = || {
+        words.u16()?;
+        Ok((words.u16()?.into(), words.u8()?, words.u8()?))
+    };
+    (0..count).map(|_| handle()).collect()
+}
+
+/// Our number for what the Rust says of a PDU, and the PDU's place. All but a wrong command and a wrong index are the frame's fault.
+fn wrong(error: Error, place: u8) -> String {
+    let number = match error {
+        Error::Pdu(PduError::Decode) => 20,
+        Error::Pdu(PduError::InvalidIndex(_)) => 21,
+        _ => 19,
+    };
+    format!("refuses {number} {place}")
 }
 
 /// The spreading is ours; the Rust has none. `SIZE AREAS S COMMAND ADDRESS IMAGE`

@@ -82,6 +82,7 @@ fn answer(mut words: Words) -> Reply {
         b"canpush" => frames::can_push(words),
         b"header" => frames::header(words),
         b"frame" => frames::frame(words),
+        b"received" => frames::received(words),
         b"spread" => frames::spread(words),
         _ => Err(Off::Unreadable),
     }

@@ -8,10 +8,13 @@ used as a library, so that a request can go on from the answer before it.
 import random
 from math import ceil
 
-from . import frames, malformed, ports, ranges, setup, sii, spread, strings
+from . import (
+    frames, malformed, ports, ranges, received, setup, sii, spread, strings,
+)
 
 # Each topic with its share of the requests, in hundredths. Those of `setup`
-# and two of `ports` come on top: the Rust has no answer to them.
+# and two of `ports`, to which the Rust has no answer, and those of `received`
+# come on top.
 TOPICS = (
     (ranges, 16),
     (sii, 22),
@@ -21,6 +24,7 @@ TOPICS = (
     (spread, 8),
     (malformed, 6),
     (setup, 6),
+    (received, 6),
 )
 
 

@@ -122,22 +122,23 @@ def read_frames():
     one = framed(pdu(7, 1, 0x0130_0000, ramp(2), False))
     two = framed(pdu(4, 2, 5, b"", True) + pdu(12, 3, U32, ramp(3), False))
     for frame in (one, two):
-        yield from every_damage(frame)
+        for bad in every_damage(frame):
+            yield line("frame", bad)
 
 
 def every_damage(frame):
     """Each byte changed, the frame cut everywhere, bytes behind it."""
     for length in range(len(frame) + 4):
-        yield line("frame", (frame + bytes(4))[:length])
+        yield (frame + bytes(4))[:length]
     for place in range(len(frame)):
         for value in around(frame[place], most=U8) + [0x80, U8]:
             bad = bytearray(frame)
             bad[place] = value
-            yield line("frame", bad)
+            yield bad
         for bit in range(8):
             bad = bytearray(frame)
             bad[place] ^= 1 << bit
-            yield line("frame", bad)
+            yield bad
 
 
 # --- Random ---

@@ -1,9 +1,11 @@
 """Lines that can't be read, and lines that only just can."""
 
 from ..request import WORDS, line
-from . import frames, ports, ranges, setup, sii, spread, strings
+from . import (
+    frames, ports, ranges, received, setup, sii, spread, strings,
+)
 
-OTHERS = (ranges, sii, strings, ports, frames, spread, setup)
+OTHERS = (ranges, sii, strings, ports, frames, spread, setup, received)
 PAIRS_LIMIT = 262_144
 LINE_LIMIT = 1_179_648
 
@@ -17,7 +19,8 @@ WRONG = (b"", b"-", b"--", b"+1", b"-1", b"1x", b"0x1", b"1.0", b"1_0", b"2",
 # A readable value for each word.
 EASY = {"image": b"0102030405060708", "chunk": b"8", "data": b"6162",
         "buffer": b"eeee", "room": b"a5a5", "area": b"00" * 14,
-        "areas": b"00" * 14, "size": b"14", "frame": b"0010",
+        "areas": b"00" * 14, "size": b"14",
+        "handles": b"1 0 12 0 0", "frame": b"0c10" + b"00" * 12,
         "number": b"50", "index": b"1", "command": b"12"}
 
 

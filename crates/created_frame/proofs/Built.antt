@@ -16,8 +16,9 @@ use Rattle.wire.proofs.Laws.{byte-behind}
 use Rattle.wire.proofs.Overlay.{overlay-behind}
 use Rattle.pdu.specs.Pdu.{areaMost, Pdu, Fits, flagsOf, headerOf, head, pduBytes, layout, chained, lastAt, AllFit, frameHeader}
 use Rattle.pdu.specs.Read.{readOf, read, shownAll, payloadOf}
+use Rattle.pdu.specs.Grammar.{WellFormed}
 use Rattle.pdu.proofs.Rows.{pdu-length, layout-none, layout-length, append-length, chained-length, counted, last-in, layout-snoc, last-snoc, fit-append}
-use Rattle.pdu.proofs.Reading.{frame-read, frame-payloads}
+use Rattle.pdu.proofs.Reading.{frame-well, frame-read, frame-payloads}
 use Rattle.created_frame.specs.declared.Builder.{Builder}
 use Rattle.created_frame.specs.Frame.{moreOn, more, marked, sound, acceptable, room, withPdu, grown, fresh, afterOpen, pushedBuilder, afterPush, taken, restBuilder, afterRest}
 use Rattle.created_frame.proofs.Whole.{pdu-behind}
@@ -152,6 +153,9 @@ module _ (ps : List Pdu) (xs : List ℕ) (b : Builder) (h : Built ps xs b) where
       let l : length xs ≤ 2047 = h .small in
       omega (arith, built-length, h .used-is)
 
+  pub built-well : WellFormed (frameHeader (b .used) ++ take (b .used) xs) ps
+  built-well = rw frame-is (frame-well ps [] (h .fit) short)
+
   pub built-read : readOf (frameHeader (b .used) ++ take (b .used) xs) ≡ read (shownAll 2 ps)
   built-read = ap readOf frame-is ∙ frame-read ps [] (h .fit) short
 
@@ -261,6 +265,9 @@ module _ (xs : List ℕ) (index : ℕ) (cs : List Call) (small : length xs ≤ a
 
   pub run-payloads : map (payloadOf frame) (shownAll 2 (runAdds (openedWith xs index) cs)) ≡ map (λ (p : Pdu). p .payload) (runAdds (openedWith xs index) cs)
   run-payloads = ours-payloads run-is
+
+  pub run-well : WellFormed frame (runAdds (openedWith xs index) cs)
+  run-well = built-well (runAdds (openedWith xs index) cs) (k .area) (k .builder) (ours-built run-is)
 
   pub run-sound : sound (length (k .area)) (k .builder) ≡ true
   run-sound = ours-sound run-is

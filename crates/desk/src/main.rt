@@ -5,6 +5,7 @@ mod on_frames;
 mod on_lists;
 mod on_ports;
 mod on_range;
+mod on_received;
 mod on_setup;
 mod on_sii;
 mod on_spread;

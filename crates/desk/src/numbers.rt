@@ -57,6 +57,11 @@ pub(crate) fn front(s: &[u8], n: usize) -> &[u8] {
     if n <= s.len() { &s[..n] } else { s }
 }
 
+// The same, of numbers.
+pub(crate) fn front_numbers(s: &[u64], n: usize) -> &[u64] {
+    if n <= s.len() { &s[..n] } else { s }
+}
+
 pub(crate) fn front_mut(s: &mut [u8], n: usize) -> &mut [u8] {
     if n <= s.len() { &mut s[..n] } else { s }
 }

@@ -1,6 +1,7 @@
 // What is said, and its text. A request puts its numbers into a lent row: the answer's values, and behind them those of the record.
 use crate::numbers::at;
 use crate::numbers::front;
+use crate::numbers::front_numbers;
 use crate::numbers::put;
 use crate::numbers::put_all;
 use lines::decimal;
@@ -58,14 +59,11 @@ pub(crate) fn absent() -> Reply {
 }
 
 pub(crate) fn refuses(row: &mut [u64], x: Refusal) -> Reply {
-    let n = refusal::number(x) as u64;
-    match x {
-        Refusal::StringTooLong { room, stored } => {
-            let xs = [n, room as u64, stored as u64];
-            said(REFUSES, put_all(row, 0, &xs))
-        }
-        _ => said(REFUSES, put(row, 0, n)),
-    }
+    let k = put(row, 0, refusal::number(x) as u64);
+    let v = refusal::values(x);
+    let n = v.count;
+    let xs = v.items;
+    said(REFUSES, put_all(row, k, front_numbers(&xs, n)))
 }
 
 // A line that can't be read.

@@ -5,6 +5,7 @@ use crate::on_frames;
 use crate::on_lists;
 use crate::on_ports;
 use crate::on_range;
+use crate::on_received;
 use crate::on_setup;
 use crate::on_sii;
 use crate::on_spread;
@@ -122,6 +123,9 @@ fn reply_to(
     row: &mut [u64],
 ) -> Reply {
     let name = words::name(lines::word(line, 0));
+    if name == on_received::RECEIVED {
+        return on_received::reply_to(line, nums, first, second, row);
+    }
     let q = asked(name);
     let r = words::read(line, q.shape, nums, first, second);
     if r.readable {

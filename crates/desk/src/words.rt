@@ -1,4 +1,5 @@
 // The words of a line: the request's name, and what follows it, read by the request's shape.
+use crate::numbers::at;
 use crate::numbers::put;
 use lines::HexAnswer;
 use lines::NumberAnswer;
@@ -196,22 +197,28 @@ fn step(
     }
 }
 
-// All words of a line behind its name. Those that are not numbers go into the two buffers.
-fn read_words(
-    line: &[u8],
-    shape: u64,
-    nums: &mut [u64],
-    first: &mut [u8],
-    second: &mut [u8],
-) -> Reading {
-    let mut r = Reading {
+// Where a line's name is read, and nothing else.
+fn named(line: &[u8], first: usize, second: usize) -> Reading {
+    Reading {
         readable: true,
         end: word_end(line, 0),
         count: 0,
         fills: 0,
-        first: first.len(),
-        second: second.len(),
-    };
+        first,
+        second,
+    }
+}
+
+// The next words, as many as the shape has. Those that are not numbers go into the two buffers.
+fn read_words(
+    line: &[u8],
+    shape: u64,
+    from: Reading,
+    nums: &mut [u64],
+    first: &mut [u8],
+    second: &mut [u8],
+) -> Reading {
+    let mut r = from;
     let mut rest = shape;
     let mut i: u8 = 0;
     while i < 16 {
@@ -222,7 +229,12 @@ fn read_words(
     r
 }
 
-// The same, and nothing stands behind them. No request has shape 0.
+// Nothing stands behind them.
+fn ended(line: &[u8], r: Reading) -> Reading {
+    if r.end < line.len() { unreadable(r) } else { r }
+}
+
+// All words of a line behind its name. No request has shape 0.
 pub(crate) fn read(
     line: &[u8],
     shape: u64,
@@ -230,13 +242,93 @@ pub(crate) fn read(
     first: &mut [u8],
     second: &mut [u8],
 ) -> Reading {
-    let r = read_words(line, shape, nums, first, second);
-    let end = r.end;
+    let start = named(line, first.len(), second.len());
+    let r = read_words(line, shape, start, nums, first, second);
     if shape == 0 {
         unreadable(r)
-    } else if end < line.len() {
-        unreadable(r)
     } else {
-        r
+        ended(line, r)
+    }
+}
+
+// The words of this shape, so many times.
+fn read_times(
+    line: &[u8],
+    shape: u64,
+    n: u64,
+    from: Reading,
+    nums: &mut [u64],
+    first: &mut [u8],
+    second: &mut [u8],
+) -> Reading {
+    let mut r = from;
+    let mut i: u64 = 0;
+    while i < n {
+        r = read_words(line, shape, r, nums, first, second);
+        i += 1;
+    }
+    r
+}
+
+// So many times at most.
+const COUNT_MOST: u64 = 2000;
+
+// A number of 16 bits, the words of the shape `each` so many times, and those of `last`. The number goes to nums, those behind it to the row.
+pub(crate) fn read_counted(
+    line: &[u8],
+    each: u64,
+    last: u64,
+    nums: &mut [u64],
+    row: &mut [u64],
+    first: &mut [u8],
+    second: &mut [u8],
+) -> Reading {
+    let r = read_number(line, nums, first, second);
+    let n = times(r, at(nums, 0));
+    read_behind(line, each, last, n, at_front(r), row, first, second)
+}
+
+// The number.
+fn read_number(line: &[u8], nums: &mut [u64], first: &mut [u8], second: &mut [u8]) -> Reading {
+    let start = named(line, first.len(), second.len());
+    let r = read_words(line, 2, start, nums, first, second);
+    counted(r, at(nums, 0))
+}
+
+// What stands behind the number n.
+fn read_behind(
+    line: &[u8],
+    each: u64,
+    last: u64,
+    n: u64,
+    from: Reading,
+    row: &mut [u64],
+    first: &mut [u8],
+    second: &mut [u8],
+) -> Reading {
+    let r = read_times(line, each, n, from, row, first, second);
+    let s = read_words(line, last, r, row, first, second);
+    ended(line, s)
+}
+
+// A number that is too large can't be read.
+fn counted(r: Reading, n: u64) -> Reading {
+    if COUNT_MOST < n { unreadable(r) } else { r }
+}
+
+// How often, where the number could be read.
+fn times(r: Reading, n: u64) -> u64 {
+    if r.readable { n } else { 0 }
+}
+
+// The numbers that follow stand from the row's front on.
+fn at_front(r: Reading) -> Reading {
+    Reading {
+        readable: r.readable,
+        end: r.end,
+        count: 0,
+        fills: r.fills,
+        first: r.first,
+        second: r.second,
     }
 }

@@ -1,16 +1,12 @@
 -- Laws of what is told: what says the same is told the same, so an export's proof shows only that its values are the answer's.
-use Prim.Native.Nat.{ℕ, _≤_, _<_}
+use Prim.Native.Nat.{ℕ, _≤_, _<_, min}
 use mathlib.Core.Path.{_≡_, refl, sym, ap, _∙_}
-use lib.ListN.{length}
+use native.Mathlib.Omega.{arith}
+use lib.ListN.{length, take, length-take}
 use mathlib.Core.Bool.{Bool, true, false}
 use mathlib.Core.List.{List, []}
 use borrow.Author.Tests.{lt-ltb, le-ltb}
-use types.Run.{OneOf}
-use denote.Enum.Declared.{tagOf}
-use Rattle.refusal.specs.Said.{Said, absent, refuses, saidOf, pick}
-use Rattle.refusal.specs.declared.Refusal.{Refusal}
-use Rattle.refusal.proofs.Refusal.{the-type}
-use Rattle.refusal.proofs.Unique.{others, no-values}
+use Rattle.refusal.specs.Said.{Said, absent, refuses, pick}
 use Rattle.created_frame.specs.declared.Builder.{Builder}
 use Rattle.pdu.specs.Pdu.{frameHeaderBytes}
 use Rattle.pdu.specs.Answers.{headerSaid}
@@ -59,7 +55,9 @@ bit-pick false = refl
 
 -- ---- a refusal
 
--- one that is not the string that is too long has no values, so the row stays
-pub row-stays : (x : Refusal) → OneOf others (tagOf the-type x) → (row : List ℕ) → row ≡ rowOver row (saidOf x)
-unfolding rowOver
-row-stays x k row = rw (no-values x k) (sym (laid-none row 0))
+-- its values are no more than its row has
+pub few-values : (n : ℕ) (xs vs : List ℕ) → n ≡ length vs → take n xs ≡ vs → n ≤ length xs
+few-values n xs vs c e =
+    let a : length (take n xs) ≡ length vs = ap length e in
+    let b : length (take n xs) ≡ min n (length xs) = length-take n xs in
+    omega arith

@@ -50,12 +50,17 @@ pub(crate) fn refused(row: &mut [u64], x: Refusal) -> u8
     ensures code { λ r. ⌜ r ≡ codeOf (saidOf x) ⌝ }
     ensures lent { λ _. ⌜ now (row .exit) ≡ rowOver (now (row .entry)) (saidOf x) ⌝ }
 {
-    match x {
-        Refusal::StringTooLong { room, stored } => {
-            let xs = [room as u64, stored as u64];
-            put(row, 0, &xs);
-            4
-        }
-        _ => refusal::number(x),
-    }
+    let v = refusal::values(x);
+    let n = v.count;
+    let xs = v.items;
+    put_front(row, &xs, n);
+    refusal::number(x)
+}
+
+// The first n of xs over the front of the row.
+fn put_front(row: &mut [u64], xs: &[u64], n: usize)
+    requires { ⌜ n ≤ length (now xs) ⌝ }
+    ensures { λ _. ⌜ now (row .exit) ≡ laid (now (row .entry)) 0 (take n (now (xs .entry))) ⌝ }
+{
+    put(row, 0, &xs[..n]);
 }

@@ -182,7 +182,7 @@ module _ (s : List ℕ) (bytes : Bytes s) where
   long = lengthOf (le16 s 0)
 
   -- the tests on the header hold
-  headed-holds : headed s ≡ true → (2 ≤ length s) × (le16 s 0 / 4096 ≡ 1) × (long + 2 ≤ length s)
+  pub headed-holds : headed s ≡ true → (2 ≤ length s) × (le16 s 0 / 4096 ≡ 1) × (long + 2 ≤ length s)
   unfolding headed
   headed-holds e =
       let p = both _ _ e in

@@ -135,29 +135,44 @@ few-places (suc f) s i end = few-body (λ next. placesAt f s next end) i end (le
 -- ---- a whole frame
 
 module _ (s : List ℕ) where
+  pub headed-short : length s < 2 → headed s ≡ false
+  unfolding headed
+  headed-short lt = rw (lt-leb 2 (length s) lt)
+
+  pub headed-type : 2 ≤ length s → (le16 s 0 / 4096 ≡ 1 → ⊥) → headed s ≡ false
+  unfolding headed
+  headed-type le ne = rw (le-leb 2 (length s) le, ne-eqb (le16 s 0 / 4096) 1 ne)
+
+  pub headed-long : 2 ≤ length s → le16 s 0 / 4096 ≡ 1 → length s < lengthOf (le16 s 0) + 2 → headed s ≡ false
+  unfolding headed
+  headed-long le e lt = rw (le-leb 2 (length s) le, eq-eqb (le16 s 0 / 4096) 1 e, lt-leb (lengthOf (le16 s 0) + 2) (length s) lt)
+
+  pub headed-fine : 2 ≤ length s → le16 s 0 / 4096 ≡ 1 → lengthOf (le16 s 0) + 2 ≤ length s → headed s ≡ true
+  unfolding headed
+  headed-fine le e fit = rw (le-leb 2 (length s) le, eq-eqb (le16 s 0 / 4096) 1 e, le-leb (lengthOf (le16 s 0) + 2) (length s) fit)
+
   pub frame-short : length s < 2 → frameOf s ≡ bad
-  unfolding frameOf headed
-  frame-short lt = rw (lt-leb 2 (length s) lt)
+  unfolding frameOf
+  frame-short lt = rw (headed-short lt)
 
   pub frame-type : 2 ≤ length s → (le16 s 0 / 4096 ≡ 1 → ⊥) → frameOf s ≡ bad
-  unfolding frameOf headed
-  frame-type le ne = rw (le-leb 2 (length s) le, ne-eqb (le16 s 0 / 4096) 1 ne)
+  unfolding frameOf
+  frame-type le ne = rw (headed-type le ne)
 
   module _ (le : 2 ≤ length s) (e : le16 s 0 / 4096 ≡ 1) where
     pub frame-long : length s < lengthOf (le16 s 0) + 2 → frameOf s ≡ bad
-    unfolding frameOf headed
-    frame-long lt = rw (le-leb 2 (length s) le, eq-eqb (le16 s 0 / 4096) 1 e, lt-leb (lengthOf (le16 s 0) + 2) (length s) lt)
+    unfolding frameOf
+    frame-long lt = rw (headed-long le e lt)
 
     pub frame-none : lengthOf (le16 s 0) ≡ 0 → frameOf s ≡ good []
-    unfolding frameOf headed
+    unfolding frameOf
     frame-none z =
         let fit : lengthOf (le16 s 0) + 2 ≤ length s = omega arith in
-        rw (le-leb 2 (length s) le, eq-eqb (le16 s 0 / 4096) 1 e, le-leb (lengthOf (le16 s 0) + 2) (length s) fit, eq-eqb (lengthOf (le16 s 0)) 0 z)
+        rw (headed-fine le e fit, eq-eqb (lengthOf (le16 s 0)) 0 z)
 
     pub frame-some : lengthOf (le16 s 0) + 2 ≤ length s → (lengthOf (le16 s 0) ≡ 0 → ⊥) → frameOf s ≡ placesAt (length s) s 2 (lengthOf (le16 s 0) + 2)
-    unfolding frameOf headed
-    frame-some fit ne =
-        rw (le-leb 2 (length s) le, eq-eqb (le16 s 0 / 4096) 1 e, le-leb (lengthOf (le16 s 0) + 2) (length s) fit, ne-eqb (lengthOf (le16 s 0)) 0 ne)
+    unfolding frameOf
+    frame-some fit ne = rw (headed-fine le e fit, ne-eqb (lengthOf (le16 s 0)) 0 ne)
 
   pub read-as : (l : List ℕ) (v : List PduFields) → frameOf s ≡ good l → map (seenAt s) l ≡ v → readOf s ≡ read v
   unfolding readOf

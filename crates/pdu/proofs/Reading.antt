@@ -181,9 +181,17 @@ well-places s (p ∷ ps) w =
     frame-some s (w .header-there) (w .type-one) (omega arith) (λ z. omega arith)
     ∙ places ps p (take 2 s) (w .after) s (length s) 2 (lengthOf (le16 s 0) + 2) (w .fit) (split s (p ∷ ps) w) (sym (two s (p ∷ ps) w)) (omega arith) (omega arith)
 
+-- its PDUs are seen where they start
+pub well-seen : (s : List ℕ) (ps : List Pdu) → WellFormed s ps → map (seenAt s) (starts 2 ps) ≡ shownAll 2 ps
+well-seen s ps w = seen-all ps (take 2 s) (w .after) s 2 (w .fit) (split s ps w) (sym (two s ps w)) .0
+
+-- its length lies within the bytes
+pub well-fits : (s : List ℕ) (ps : List Pdu) → WellFormed s ps → lengthOf (le16 s 0) + 2 ≤ length s
+well-fits s ps w = let n : lengthOf (le16 s 0) ≡ length (layout ps) = w .length-is in omega (arith, split-length s ps w)
+
 -- no well-formed frame is refused: its PDUs are read, in order, with all fields
 pub well-read : (s : List ℕ) (ps : List Pdu) → WellFormed s ps → readOf s ≡ read (shownAll 2 ps)
-well-read s ps w = read-as s (starts 2 ps) (shownAll 2 ps) (well-places s ps w) (seen-all ps (take 2 s) (w .after) s 2 (w .fit) (split s ps w) (sym (two s ps w)) .0)
+well-read s ps w = read-as s (starts 2 ps) (shownAll 2 ps) (well-places s ps w) (well-seen s ps w)
 
 -- .. and their payloads are where they are said to be
 pub well-payloads : (s : List ℕ) (ps : List Pdu) → WellFormed s ps → map (payloadOf s) (shownAll 2 ps) ≡ map (λ (p : Pdu). p .payload) ps

@@ -11,6 +11,7 @@ use prog.Routine.{Routine}
 use prog.Wp.{Heap}
 use ghost.Atoms.{Atoms}
 use contract.Monad.{Fun}
+use Rattle.refusal.specs.declared.ValueRow.{ValueRow}
 use Rattle.wire.specs.Bytes.{span, filled}
 use Rattle.eeprom.specs.Image.{widthOf, chunkOf}
 use Rattle.eeprom.specs.declared.Chunk.{Chunk}
@@ -42,6 +43,11 @@ unfolding chunkOf filled span
 narrow-is image word chunk.Four = refl
 narrow-is image word chunk.Eight = refl
 
+-- a refusal's values: the row's two fields are known
+values-same : (a b : ValueRow) (n : ℕ) (l m : List ℕ) → (a .count ≡ n) × (a .items ≡ l) × (take (a .count) (a .items) ≡ m) → (b .count ≡ n) × (b .items ≡ l) × (take (b .count) (b .items) ≡ m) → a ≡ b
+values-same a b n l m p q =
+    ap (λ (z : ℕ). record { count = z; items = a .items }) (same (p .0) (q .0)) ∙ ap (λ (z : List ℕ). record { count = b .count; items = z }) (same (p .1) (q .1))
+
 -- a model of the logic
 module _ {M : Type 1} (𝓤 : URA M) (H : Heap 𝓤) (A : Atoms 𝓤) (mem : Memory → SProp 𝓤) (run : Routine → Fun 𝓤) where
   -- THE STATEMENT
@@ -49,6 +55,7 @@ module _ {M : Type 1} (𝓤 : URA M) (H : Heap 𝓤) (A : Atoms 𝓤) (mem : Mem
   every-call = record {
     -- ---- refusal
     «refusal::number» = λ κs a g r s ws vs. one 𝓤 (λ p q. (same p q, refl));
+    «refusal::values» = λ κs a g r s ws vs. one 𝓤 (λ p q. (values-same r s _ _ _ p q, refl));
     -- ---- wire
     «wire::byte_at» = λ κs a g r s ws vs. one 𝓤 (λ p q. (same p q, refl));
     «wire::word_at» = λ κs a g r s ws vs. one 𝓤 (λ p q. (same p q, refl));
@@ -143,6 +150,8 @@ module _ {M : Type 1} (𝓤 : URA M) (H : Heap 𝓤) (A : Atoms 𝓤) (mem : Mem
     «created_frame::handle_row» = λ κs a g r s ws vs. one 𝓤 (λ p q. (same p q, refl));
     -- ---- frame_reader
     «frame_reader::read_frame» = λ κs a g r s ws vs. one 𝓤 (λ p q. (read-frame-unique _ r s p q, refl));
+    -- ---- received
+    «received::receive» = λ κs a g r s ws vs. one 𝓤 (λ p q. (same p q, refl));
     -- ---- spread
     «spread::spread» = λ κs a g r s ws vs. one 𝓤 (λ p q. (spread-unique _ _ _ _ _ _ _ r s _ _ p q, ap (λ l. (l, (tt, (tt, (tt, (tt, (tt, (tt, tt)))))))) (same (p .1 .1) (q .1 .1))));
     -- ---- lines

@@ -31,6 +31,7 @@ use Rattle.ports.proofs as of-ports
 use Rattle.pdu.proofs as of-pdu
 use Rattle.created_frame.proofs as of-created-frame
 use Rattle.frame_reader.proofs as of-frame-reader
+use Rattle.received.proofs as of-received
 use Rattle.spread.proofs as of-spread
 use Rattle.lines.proofs as of-lines
 use Rattle.held.proofs as of-held
@@ -85,6 +86,7 @@ module _ {M : Type 1} (𝓤 : URA M) (H : Heap 𝓤) (A : Atoms 𝓤) (mem : Mem
   pub record EveryCall : Type 1 where
     -- ---- refusal
     pub «refusal::number» : Whole of-refusal.number.ended of-refusal.number.clauses
+    pub «refusal::values» : Whole of-refusal.values.ended of-refusal.values.clauses
     -- ---- wire
     pub «wire::byte_at» : Whole of-wire.byte_at.ended of-wire.byte_at.clauses
     pub «wire::word_at» : Whole of-wire.word_at.ended of-wire.word_at.clauses
@@ -180,6 +182,8 @@ module _ {M : Type 1} (𝓤 : URA M) (H : Heap 𝓤) (A : Atoms 𝓤) (mem : Mem
     pub «created_frame::handle_row» : Whole of-created-frame.handle_row.ended of-created-frame.handle_row.clauses
     -- ---- frame_reader
     pub «frame_reader::read_frame» : Whole of-frame-reader.read_frame.ended of-frame-reader.read_frame.clauses
+    -- ---- received
+    pub «received::receive» : Whole of-received.receive.ended of-received.receive.clauses
     -- ---- spread
     pub «spread::spread» : Whole of-spread.spread.ended of-spread.spread.clauses
     -- ---- lines

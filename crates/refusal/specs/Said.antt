@@ -1,9 +1,9 @@
 -- What a call says, on paper: values, that there is none, or a refusal by its number (RULES, refusals) with its values.
 -- Every answer enum of the crates above has a map into Said, and the promises are equations of Said.
 use Prim.Native.Nat.{ℕ}
-use mathlib.Core.List.{List, [], _∷_}
+use mathlib.Core.List.{List, [], _∷_, _++_}
 use mathlib.Core.Bool.{Bool, true, false}
-use lib.ListN.{getD}
+use lib.ListN.{getD, take}
 use Rattle.refusal.specs.declared.Refusal.{Refusal}
 use Rattle.refusal.specs.declared.Refusal.the-variants as r
 
@@ -28,12 +28,20 @@ knownBy r.Sum = (11, [])
 knownBy r.BadFrame = (12, [])
 knownBy r.NoRoom = (13, [])
 knownBy r.BadArgument = (14, [])
+knownBy (r.WrongFrame place) = (19, place ∷ [])
+knownBy (r.WrongCommand place) = (20, place ∷ [])
+knownBy (r.WrongIndex place) = (21, place ∷ [])
+knownBy (r.WrongLength place) = (22, place ∷ [])
 
 abbrev pub numberOf : Refusal → ℕ
 numberOf x = knownBy x .0
 
 abbrev pub valuesOf : Refusal → List ℕ
 valuesOf x = knownBy x .1
+
+-- .. as a row of two, zeros behind them
+abbrev pub valuesRow : Refusal → List ℕ
+valuesRow x = take 2 (valuesOf x ++ (0 ∷ 0 ∷ []))
 
 abbrev pub saidOf : Refusal → Said
 saidOf x = refuses (numberOf x) (valuesOf x)

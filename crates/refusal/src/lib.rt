@@ -1,7 +1,9 @@
 // The refusals (RULES, refusals), and the number that each is known by.
 // Every answer of the crates above is put on paper as `Said` (specs/Said.antt), and the promises are equations of it.
 ghost use mathlib.Core.Path.{_≡_};
-ghost use Rattle.refusal.specs.Said.{numberOf};
+ghost use mathlib.Core.List.{[], _∷_};
+ghost use lib.ListN.{length, take};
+ghost use Rattle.refusal.specs.Said.{numberOf, valuesOf, valuesRow};
 
 pub enum Refusal {
     // 1: an address rule is broken.
@@ -32,6 +34,20 @@ pub enum Refusal {
     NoRoom,
     // 14: a size, command, category number or state outside its bounds.
     BadArgument,
+    // Of a frame that came back, with the PDU's place in it. 19: it is no frame, or the PDUs are not those of the handles.
+    WrongFrame { place: u16 },
+    // 20: the PDU's command is not its handle's.
+    WrongCommand { place: u16 },
+    // 21: the PDU's index is not its handle's.
+    WrongIndex { place: u16 },
+    // 22: the PDU's length is not its handle's.
+    WrongLength { place: u16 },
+}
+
+// The values of a refusal: the first `count` of the two, and the others are 0.
+pub struct ValueRow {
+    pub count: usize,
+    pub items: [u64; 2],
 }
 
 // The number by which a refusal is known (RULES, refusals).
@@ -53,5 +69,42 @@ pub fn number(x: Refusal) -> u8
         Refusal::BadFrame => 12,
         Refusal::NoRoom => 13,
         Refusal::BadArgument => 14,
+        Refusal::WrongFrame { place: _ } => 19,
+        Refusal::WrongCommand { place: _ } => 20,
+        Refusal::WrongIndex { place: _ } => 21,
+        Refusal::WrongLength { place: _ } => 22,
+    }
+}
+
+// The values that a refusal gives (RULES, refusals).
+pub fn values(x: Refusal) -> ValueRow
+    ensures { λ r. ⌜ (r .count ≡ length (valuesOf x)) × (r .items ≡ valuesRow x) × (take (r .count) (r .items) ≡ valuesOf x) ⌝ }
+{
+    match x {
+        Refusal::StringTooLong { room, stored } => {
+            ValueRow {
+                count: 2,
+                items: [room as u64, stored as u64],
+            }
+        }
+        Refusal::WrongFrame { place } => one(place),
+        Refusal::WrongCommand { place } => one(place),
+        Refusal::WrongIndex { place } => one(place),
+        Refusal::WrongLength { place } => one(place),
+        _ => {
+            ValueRow {
+                count: 0,
+                items: [0, 0],
+            }
+        }
+    }
+}
+
+fn one(v: u16) -> ValueRow
+    ensures { λ r. ⌜ r ≡ record { count = 1; items = v ∷ 0 ∷ [] } ⌝ }
+{
+    ValueRow {
+        count: 1,
+        items: [v as u64, 0],
     }
 }

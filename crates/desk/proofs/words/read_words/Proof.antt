@@ -12,9 +12,6 @@ Inv-loop line shape nums₀ first₀ second₀ r₀ rest₀ i₀ nums first seco
 abbrev μ-loop : tie.MeasureT-loop
 μ-loop line shape nums₀ first₀ second₀ r₀ rest₀ i₀ nums first second r rest i = 16 - i
 
-word-end-requires : tie.Need-word-end-requires Inv-loop μ-loop
-word-end-requires c κs = search needs
-
 loop-holds : tie.Need-loop-holds Inv-loop μ-loop
 loop-holds c = search needs
 
@@ -51,7 +48,6 @@ read-words-spec =
     (tie.spec
     Inv-loop
     μ-loop
-    word-end-requires
     loop-holds
     step-requires
     mul-rest

@@ -1,25 +1,22 @@
--- `refused`: a string that is too long has two values, every other refusal none.
-use mathlib.Core.Path.{refl}
+-- `refused`: the number is the code, and the values go over the front of the row.
+use mathlib.Core.Path.{ap, _∙_}
+use Rattle.wire.specs.Bytes.{laid}
 use Rattle.export.specs.Told.{rowOver}
-use Rattle.export.proofs.Laws.{row-stays}
+use Rattle.export.proofs.Laws.{few-values}
 use borrow.Author.Needs.{needs}
 use Rattle.export.proofs.row.refused.Statement.{statement}
 use Rattle.export.proofs.row.refused.Tie as tie
 
-enum-known-x : tie.Need-enum-known-x
-enum-known-x c = search needs
+values-requires : tie.Need-values-requires
+values-requires c κs = search needs
 
-cast-t7 : tie.Need-cast-t7
-cast-t7 c = search needs
+slice-aggregate-put-front : tie.Need-slice-aggregate-put-front
+slice-aggregate-put-front c = search needs
 
-cast-t8 : tie.Need-cast-t8
-cast-t8 c = search needs
-
-slice-aggregate-put : tie.Need-slice-aggregate-put
-slice-aggregate-put c = search needs
-
-put-requires : tie.Need-put-requires
-put-requires c κs = search needs
+put-front-requires : tie.Need-put-front-requires
+put-front-requires c κs =
+    let v = c .before .before .before .values in
+    few-values (v .result .count) (v .result .items) _ (v .ensures .0) (v .ensures .2)
 
 number-requires : tie.Need-number-requires
 number-requires c κs = search needs
@@ -29,21 +26,18 @@ same-length c = search needs
 
 returns : tie.Need-returns
 unfolding rowOver
-returns c = rw (c .before .before .before .before .before .before .x .given .1) (refl, c .before .before .put .ensures)
-
-returns-2 : tie.Need-returns-2
-returns-2 c = (c .number .ensures, row-stays (c .before .before .before .args .x) (c .before .match .keys2) _)
+returns c =
+    let v = c .before .before .before .before .before .before .before .values in
+    let row = c .before .before .before .before .before .before .before .before .before .args .row .now in
+    (c .number .ensures, c .before .before .before .put-front .ensures ∙ ap (laid row 0) (v .ensures .2))
 
 pub refused-spec : {M : Type 1} → statement M
 refused-spec =
     tie.close
     (tie.spec
-    enum-known-x
-    cast-t7
-    cast-t8
-    slice-aggregate-put
-    put-requires
+    values-requires
+    slice-aggregate-put-front
+    put-front-requires
     number-requires
     same-length
-    returns
-    returns-2)
+    returns)

@@ -1,6 +1,6 @@
-//! Stands for ethercrab's pdu_loop/frame_element/receiving_frame.rs. Waiting and receiving are left out of the port: nothing is ever received here.
+//! Stands for ethercrab's pdu_loop/frame_element/receiving_frame.rs. Waiting is left out of the port: what is received is put there by the oracle.
 
-use super::{FrameBox, FrameElement};
+use super::{FrameBox, FrameElement, FrameState};
 use crate::PduLoop;
 use crate::error::Error;
 use crate::pdu_loop::frame_element::received_frame::ReceivedFrame;
@@ -25,6 +25,12 @@ impl<'sto> ReceivingFrame<'sto> {
 
     pub fn mark_received(&self) -> Result<(), Error> {
         Err(Error::Internal)
+    }
+
+    /// For the oracle: the frame in the hands of whoever waited for it.
+    pub fn received(self) -> ReceivedFrame<'sto> {
+        self.0.set_state(FrameState::RxProcessing);
+        ReceivedFrame::new(self.0)
     }
 }
 

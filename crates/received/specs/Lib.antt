@@ -1,0 +1,3 @@
+pub mod Matching
+pub mod Answers
+pub mod Receives
