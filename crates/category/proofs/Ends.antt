@@ -1,13 +1,13 @@
 -- A search ends at one header: the one at which a decision is made, after the headers that are passed over. What it says is read off that header,
 -- and each of its answers has a definition that speaks of no search.
-use Prim.Native.Nat.{ℕ, zero, suc, ◌+◌, ◌*◌, ◌≤◌, ◌<◌}
+use Prim.Native.Nat.{ℕ, zero, suc, ◌+◌, ◌<◌}
 use native.Mathlib.Omega.{arith}
 use mathlib.Core.Path.{◌≡◌, refl, sym, ap, ◌∙◌}
-use mathlib.Core.List.{List, [], ◌∷◌}
+use mathlib.Core.List.{List, []}
 use mathlib.Core.Bool.{Bool, true, false}
 use borrow.Author.Tests.{ltb-true, ltb-false, leb-true, leb-false, eqb-true, eqb-false}
 use lib.Dec.{ltb, leb, eqb}
-use Rattle.refusal.specs.Said.{Said, gives, absent, refuses, pick}
+use Rattle.refusal.specs.Said.{Said, absent, refuses, pick}
 use Rattle.eeprom.specs.Range.{new_said}
 use Rattle.category.specs.Layout.{first_header, header_words, type_at, length_at, end_mark, word_most}
 use Rattle.category.specs.Category.{empty_most, counted, Stepped, done, next, decided, stepped, searched}

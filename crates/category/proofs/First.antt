@@ -1,6 +1,6 @@
 -- Each answer of a search has a definition that speaks of no search. A header of its kind is where the search ends, which gives one way;
 -- and the header at which it ends is of one of the three kinds, which gives the other.
-use Prim.Native.Nat.{ℕ, ◌+◌, ◌*◌, ◌%◌, ◌≤◌, ◌<◌}
+use Prim.Native.Nat.{ℕ, ◌+◌, ◌*◌, ◌%◌, ◌≤◌}
 use native.Mathlib.Omega.{arith}
 use mathlib.Core.Path.{◌≡◌, refl, sym, ap, ◌∙◌}
 use mathlib.Core.List.{List, [], ◌∷◌}

@@ -2,16 +2,15 @@
 -- Then nothing behind the image matters: a longer one has the same headers, and the same is decided at the last.
 use Prim.Native.Nat.{ℕ, zero, suc, ◌+◌, ◌*◌, ◌≤◌, ◌<◌}
 use native.Mathlib.Omega.{arith}
-use mathlib.Core.Path.{◌≡◌, refl, sym, ap, ◌∙◌}
+use mathlib.Core.Path.{◌≡◌, refl, sym, ◌∙◌}
 use mathlib.Core.List.{List, [], ◌∷◌, ◌++◌}
 use mathlib.Core.Bool.{Bool, true, false}
-use lib.ListN.{length, get_or, length-append, get_or-append}
+use lib.ListN.{length, get_or-append}
 use lib.Dec.{leb, eqb}
 use borrow.Author.Tests.{le-leb, leb-true, eq-eqb, ne_eqb, eqb-true, eqb-false}
 use Rattle.refusal.specs.Said.{Said, gives, absent, refuses, pick}
 use Rattle.wire.specs.Bytes.{byte_at}
 use Rattle.eeprom.specs.Image.{image_most, within}
-use Rattle.eeprom.specs.Range.{new_said}
 use Rattle.eeprom.proofs.Laws.{within-is}
 use Rattle.category.specs.Layout.{mark_words, header_words, type_at, length_at, end_mark, word_most}
 use Rattle.category.specs.Category.{numbers, among, Stepped, done, next, stepped, searched, category_said}

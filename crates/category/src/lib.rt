@@ -1,5 +1,7 @@
 // Finding a category of the SII in a lent EEPROM image: `category` of ethercrab's subdevice/eeprom.rs.
 // RULES, category, decides; specs/Category.antt has its rules in its order.
+#![tactic(auto)]
+
 ghost use Rattle.std.specs.Prelude.{◌≡◌, ◌+◌, ◌≤◌, ◌<◌};
 ghost use Rattle.eeprom.specs.Answers.{said_range};
 ghost use Rattle.category.specs.Layout.{header_words, word_most};
@@ -45,7 +47,7 @@ const END: u16 = 65535;
 const EMPTY_MOST: u32 = 32;
 
 // What a search answers.
-#[derive(Drop)]
+#[derive(Clone, Copy)]
 pub enum Found {
     // The category's body, from its first byte to its end.
     At(Range),
@@ -57,7 +59,7 @@ pub enum Found {
 }
 
 // Whether all that a search looks at lies in the image.
-#[derive(Drop)]
+#[derive(Clone, Copy)]
 pub enum InsideAnswer {
     Inside(bool),
     // 14 and 1, as the search's own.
@@ -65,14 +67,14 @@ pub enum InsideAnswer {
 }
 
 // Where a search ends: its last header's word, and what it answers.
-#[derive(Drop)]
+#[derive(Clone, Copy)]
 struct Ending {
     word: u32,
     found: Found,
 }
 
 // What a header leads to.
-#[derive(Drop)]
+#[derive(Clone, Copy)]
 enum Step {
     // The search ends.
     Done(Found),
@@ -142,6 +144,7 @@ fn header_end(image: &[u8], chunk: Chunk, word: u32) -> u32
 }
 
 // A number that may be sought.
+#[tactic(auto, unfolding(crate::specs::Category::among))]
 fn sought(number: u16) -> bool
     ensures { result ≡ among number numbers }
 {

@@ -1,5 +1,6 @@
 // The distributed clock's modes that the SII lists, its category DC, which ethercrab names and does not read.
 // Follows ETG2010, category DC, and RULES, lists. specs/Layout.antt says where each field lies.
+#![tactic(auto)]
 ghost use Rattle.std.specs.Prelude.{◌≡◌, ◌+◌, ◌≤◌, replicate};
 ghost use Rattle.refusal.specs.Said.{number_of, values_of};
 ghost use Rattle.sii.specs.Layout.{place_most};
@@ -33,7 +34,7 @@ const MODE_NAME_IDX: u32 = 18;
 const MODE_DESC_IDX: u32 = 19;
 
 // A mode of the distributed clock. Times are in ns.
-#[derive(Drop)]
+#[derive(Clone, Copy)]
 pub struct DistributedClock {
     pub cycle_time0: u32,
     pub shift_time0: u32,
@@ -48,7 +49,7 @@ pub struct DistributedClock {
 }
 
 // At most 8; a place from the count on is all zero.
-#[derive(Drop)]
+#[derive(Clone, Copy)]
 pub struct DistributedClocks {
     pub answer: ListAnswer,
     pub count: usize,
@@ -56,7 +57,7 @@ pub struct DistributedClocks {
 }
 
 // What stands at a position: a record and where the next one starts, or no whole record.
-#[derive(Drop)]
+#[derive(Clone, Copy)]
 enum ClockItem {
     One(DistributedClock, u32),
     Stop,

@@ -1,5 +1,7 @@
 // The CRC-8 of the SII: polynomial 0x07, start 0xFF, no reflection, no final xor.
 // Follows `STATION_ALIAS_CRC` of src/eeprom/mod.rs and RULES, read-out.
+#![tactic(auto)]
+
 ghost use Rattle.std.specs.Prelude.{◌≡◌};
 ghost use Rattle.crc.specs.Crc.{byte_bits, crc_of};
 ghost use Rattle.crc.specs.Steps.{shifted_by, entries};

@@ -1,5 +1,6 @@
 // The frame builder: PDUs pushed one after the other into a lent area. It follows created_frame.rs of the Rust and RULES, frames;
 // headers are packed by `pdu`. The state of an area goes in and comes back by value, and so does the index counter.
+#![tactic(auto)]
 ghost use Rattle.std.specs.Prelude.{◌≡◌, ◌+◌, ◌<◌, ◌≤◌, max, length};
 ghost use Rattle.pdu.specs.Pdu.{area_most, pdu_overhead, more_at};
 ghost use Rattle.created_frame.specs.Frame.{marked, sound, acceptable, with_pdu, Roomy, grown, pushed, pushed_builder, pushed_next, after_push, opened, after_open, taken, rest_pushed, rest_builder, rest_next, after_rest, can_push};
@@ -16,7 +17,7 @@ const COMMAND_MOST: u8 = 14;
 const DATA_MOST: usize = 65535;
 
 // The state of one area: bytes used, PDUs pushed, and where the last PDU starts (of no meaning at count 0).
-#[derive(Drop)]
+#[derive(Clone, Copy)]
 pub struct Builder {
     pub used: usize,
     pub count: usize,
@@ -24,7 +25,7 @@ pub struct Builder {
 }
 
 // What a response is later matched against: the PDU's place in the area, its whole size, its index and its command.
-#[derive(Drop)]
+#[derive(Clone, Copy)]
 pub struct PduResponseHandle {
     pub start: usize,
     pub size: usize,
@@ -33,7 +34,7 @@ pub struct PduResponseHandle {
 }
 
 // What opening an area answers.
-#[derive(Drop)]
+#[derive(Clone, Copy)]
 pub enum Opened {
     // The state of an empty area.
     Ready(Builder),
@@ -42,7 +43,7 @@ pub enum Opened {
 }
 
 // What a push answers.
-#[derive(Drop)]
+#[derive(Clone, Copy)]
 pub enum Pushed {
     Done(PduResponseHandle),
     // 14: a state, command or length out of bounds. 8: no space.
@@ -50,7 +51,7 @@ pub enum Pushed {
 }
 
 // A push's answer, the state after it, and the index of the next PDU.
-#[derive(Drop)]
+#[derive(Clone, Copy)]
 pub struct Push {
     pub answer: Pushed,
     pub builder: Builder,
@@ -58,7 +59,7 @@ pub struct Push {
 }
 
 // What a push of as much as fits answers.
-#[derive(Drop)]
+#[derive(Clone, Copy)]
 pub enum Rest {
     // How many bytes went in, and the PDU.
     Done {
@@ -72,7 +73,7 @@ pub enum Rest {
 }
 
 // Its answer, the state after it, and the index of the next PDU.
-#[derive(Drop)]
+#[derive(Clone, Copy)]
 pub struct RestPush {
     pub answer: Rest,
     pub builder: Builder,
@@ -80,7 +81,7 @@ pub struct RestPush {
 }
 
 // Whether a payload has room.
-#[derive(Drop)]
+#[derive(Clone, Copy)]
 pub enum CanPush {
     Room(bool),
     // 14: a state or length out of bounds.

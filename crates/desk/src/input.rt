@@ -3,7 +3,7 @@ use crate::numbers::front;
 use wire::byte_at;
 
 // Between two turns.
-#[derive(Drop)]
+#[derive(Clone, Copy)]
 pub(crate) struct State {
     // The bytes of the chunk that are not taken yet: at..have.
     pub at: usize,

@@ -1,4 +1,5 @@
 // The desk: requests in, answers out, a line each, in the form of docs/DESK.md. Every line gets an answer, whatever its bytes are.
+#![tactic(auto)]
 mod input;
 mod numbers;
 mod on_frames;

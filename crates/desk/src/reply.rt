@@ -3,7 +3,7 @@ use crate::numbers::{at, front, front_numbers, put, put_all};
 use lines::{decimal, hex_out, say};
 use refusal::Refusal;
 
-#[derive(Drop)]
+#[derive(Clone, Copy)]
 pub(crate) struct Reply {
     // Gives, absent or refuses.
     pub verb: u8,

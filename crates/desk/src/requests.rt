@@ -23,7 +23,7 @@ const LISTS: u8 = 7;
 
 const SETUP: u8 = 8;
 
-#[derive(Drop)]
+#[derive(Clone, Copy)]
 struct Request {
     topic: u8,
     shape: u64,

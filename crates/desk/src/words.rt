@@ -17,7 +17,7 @@ const TOP: u64 = 0x1000_0000_0000_0000;
 const UNREADABLE: u64 = 0xffff_ffff_ffff_ffff;
 
 // What is read so far.
-#[derive(Drop)]
+#[derive(Clone, Copy)]
 pub(crate) struct Reading {
     pub readable: bool,
     // The end of the last word.

@@ -1,6 +1,6 @@
 -- The rules of a range: RULES, range and refusals. Definitions only, in plain numbers.
 -- A range is its position and its end, both counted in bytes from the image's start.
-use Rattle.std.specs.Prelude.{ℕ, ◌+◌, ◌-◌, ◌*◌, ◌/◌, ◌%◌, min, max, List, [], ◌∷◌, ◌++◌, length, take, replicate, leb, ltb, eqb}
+use Rattle.std.specs.Prelude.{ℕ, ◌+◌, ◌-◌, ◌*◌, ◌/◌, ◌%◌, min, max, List, [], ◌∷◌, ◌++◌, length, take, replicate, leb, ltb}
 use Rattle.refusal.specs.Said.{Said, gives, refuses, pick}
 use Rattle.wire.specs.Bytes.{byte_at, filled, overlay}
 use Rattle.eeprom.specs.Image.{image_most, in_bounds, fine}

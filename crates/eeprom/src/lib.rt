@@ -1,5 +1,7 @@
 // The lent EEPROM image, read in chunks, and a range of it: a plain record beside the image.
 // Follows src/eeprom/mod.rs (`EepromDataProvider`, `EepromRange`) and RULES, range.
+#![tactic(auto)]
+
 ghost use Rattle.std.specs.Prelude.{◌≡◌, [], ◌∷◌, ◌+◌, ◌-◌, ◌*◌, ◌%◌, ◌≤◌, ◌<◌, length, get_or};
 ghost use Rattle.wire.specs.Bytes.{byte_at, le16, le32, span, filled, overlay};
 ghost use Rattle.eeprom.specs.Image.{image_most, long_most, far_most, within, in_bounds, fine, width_of, chunk_of};
@@ -10,7 +12,7 @@ use refusal::Refusal;
 use wire::{byte_at, lay, lesser, word_at};
 
 // The width of a chunk.
-#[derive(Drop)]
+#[derive(Clone, Copy)]
 pub enum Chunk {
     // 4 bytes
     Four,
@@ -22,35 +24,35 @@ pub enum Chunk {
 pub type Pos = u32;
 
 // A range of the image: where it stands, and where it ends, in bytes.
-#[derive(Drop)]
+#[derive(Clone, Copy)]
 pub struct Range {
     pub byte_pos: Pos,
     pub end: Pos,
 }
 
 // A range that was asked for.
-#[derive(Drop)]
+#[derive(Clone, Copy)]
 pub enum RangeAnswer {
     Made(Range),
     No(Refusal),
 }
 
 // A byte, and the range after it.
-#[derive(Drop)]
+#[derive(Clone, Copy)]
 pub enum ByteAnswer {
     Byte(u8, Range),
     No(Refusal),
 }
 
 // How many bytes were read, and the range after them.
-#[derive(Drop)]
+#[derive(Clone, Copy)]
 pub enum Reading {
     Took(Pos, Range),
     No(Refusal),
 }
 
 // What an exact read answers.
-#[derive(Drop)]
+#[derive(Clone, Copy)]
 pub enum Exact {
     // The whole buffer was read into.
     Full,
@@ -59,14 +61,14 @@ pub enum Exact {
 }
 
 // An exact read's answer, and the range as it then stands.
-#[derive(Drop)]
+#[derive(Clone, Copy)]
 pub struct ExactRead {
     pub answer: Exact,
     pub range: Range,
 }
 
 // What a write answers.
-#[derive(Drop)]
+#[derive(Clone, Copy)]
 pub enum Writing {
     // How many bytes, the padding counted.
     Written(Pos),
@@ -75,7 +77,7 @@ pub enum Writing {
 }
 
 // A write's answer, and the range as it then stands.
-#[derive(Drop)]
+#[derive(Clone, Copy)]
 pub struct WordsWritten {
     pub answer: Writing,
     pub range: Range,

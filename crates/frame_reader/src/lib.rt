@@ -1,5 +1,6 @@
 // The frame reader (RULES, reader): the PDUs of any bytes that are a frame, else refusal 12. The Rust has none.
 // Two steps, header and body, each calling the other on what is left, find where the PDUs start; a loop then reads their fields.
+#![tactic(auto)]
 ghost use Rattle.std.specs.Prelude.{◌≡◌, ℕ, ◌+◌, ◌-◌, ◌*◌, ◌≤◌, ◌<◌, [], length, take};
 ghost use Rattle.wire.specs.Bytes.{word_past};
 ghost use Rattle.pdu.specs.Pdu.{area_most, header_bytes, pdu_overhead, frame_header_bytes, pdus_most};
@@ -15,7 +16,7 @@ use refusal::Refusal;
 use wire::{byte_at, long_at, word_at};
 
 // What reading a frame answers.
-#[derive(Drop)]
+#[derive(Clone, Copy)]
 pub enum FrameAnswer {
     // The bytes are a frame, and the list has its PDUs.
     Frame,
@@ -24,7 +25,7 @@ pub enum FrameAnswer {
 }
 
 // The answer, and the PDUs in order; a place past the count holds zeros.
-#[derive(Drop)]
+#[derive(Clone, Copy)]
 pub struct FrameRead {
     pub answer: FrameAnswer,
     pub count: usize,
@@ -32,7 +33,7 @@ pub struct FrameRead {
 }
 
 // What the cycle finds: the number of PDUs, or no frame.
-#[derive(Drop)]
+#[derive(Clone, Copy)]
 enum Walked {
     Good(usize),
     Bad,

@@ -1,5 +1,6 @@
 // The forms that lend, each thin over its by-value core: `Ports` changed in place, and a range that keeps its image inside it.
 // RULES, forms. No call here decides anything: what it answers and leaves is the core's.
+#![tactic(auto)]
 ghost use Rattle.std.specs.Prelude.{◌≡◌};
 ghost use Rattle.ports.specs.Ports.{times_set};
 ghost use Rattle.ports.specs.Answers.{said_port};
@@ -16,7 +17,7 @@ use step::{byte_step, exact_step, range_step, read_step, skip_step, write_step};
 mod step;
 
 // A range of a lent image: where it stands, and where it ends, in bytes. The Rust's keeps a provider instead of the image.
-#[derive(Drop)]
+#[derive(Clone, Copy)]
 pub struct EepromRange<'a> {
     pub image: &'a [u8],
     pub byte_pos: Pos,
@@ -32,49 +33,49 @@ pub struct EepromRangeMut<'a> {
 }
 
 // Whether a call was carried out.
-#[derive(Drop)]
+#[derive(Clone, Copy)]
 pub enum Outcome {
     Done,
     No(Refusal),
 }
 
 // A byte that was read.
-#[derive(Drop)]
+#[derive(Clone, Copy)]
 pub enum ByteRead {
     Byte(u8),
     No(Refusal),
 }
 
 // A byte, and the position after it.
-#[derive(Drop)]
+#[derive(Clone, Copy)]
 pub struct ByteStep {
     pub answer: ByteRead,
     pub byte_pos: Pos,
 }
 
 // How many bytes.
-#[derive(Drop)]
+#[derive(Clone, Copy)]
 pub enum Counted {
     Bytes(Pos),
     No(Refusal),
 }
 
 // A count of bytes, and the position after them.
-#[derive(Drop)]
+#[derive(Clone, Copy)]
 pub struct CountStep {
     pub answer: Counted,
     pub byte_pos: Pos,
 }
 
 // A range that was asked for; refused, it is a closed one, on which every later call is 14.
-#[derive(Drop)]
+#[derive(Clone, Copy)]
 pub struct Opened<'a> {
     pub answer: Outcome,
     pub range: EepromRange<'a>,
 }
 
 // The same of an image that is lent to be written.
-#[derive(Drop)]
+#[derive(Clone, Copy)]
 pub struct OpenedMut<'a> {
     pub answer: Outcome,
     pub range: EepromRangeMut<'a>,

@@ -11,7 +11,7 @@ use eeprom::{ByteAnswer, Chunk, Exact, Pos, Range, RangeAnswer, Reading, Writing
 const CLOSED_END: Pos = 1;
 
 // A range that was asked for, and whether there is one.
-#[derive(Drop)]
+#[derive(Clone, Copy)]
 pub(crate) struct RangeStep {
     pub(crate) answer: Outcome,
     pub(crate) byte_pos: Pos,
@@ -19,7 +19,7 @@ pub(crate) struct RangeStep {
 }
 
 // An outcome, and the position after it.
-#[derive(Drop)]
+#[derive(Clone, Copy)]
 pub(crate) struct OutcomeStep {
     pub(crate) answer: Outcome,
     pub(crate) byte_pos: Pos,

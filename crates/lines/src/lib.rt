@@ -1,5 +1,6 @@
 // What the programs share: the words of a line, numbers and bytes as text, read and written. Every call is total on any bytes.
 // The form of a line is that of docs/DESK.md.
+#![tactic(auto)]
 ghost use Rattle.std.specs.Prelude.{◌≡◌, true, ◌≤◌, ◌<◌, length};
 ghost use Rattle.io.specs.Digits.{hex_digit_ascii as glyphOf};
 ghost use Rattle.wire.specs.Bytes.{laid};
@@ -20,7 +21,7 @@ ghost use Rattle.lines.specs.Pairs.{
 ghost use Rattle.lines.specs.Places.{after};
 
 // A word as a number.
-#[derive(Drop)]
+#[derive(Clone, Copy)]
 pub enum NumberAnswer {
     // The number that its digits spell.
     Is(u64),
@@ -29,7 +30,7 @@ pub enum NumberAnswer {
 }
 
 // A word as bytes.
-#[derive(Drop)]
+#[derive(Clone, Copy)]
 pub enum HexAnswer {
     // How many there are.
     Length(usize),

@@ -1,5 +1,6 @@
 // The lists of the SII: sync managers, FMMUs and PDOs, the records of a category one behind the other, in a counted array.
 // Follows subdevice/eeprom.rs and eeprom/types.rs; RULES, lists. specs/Layout.antt says where each field lies.
+#![tactic(auto)]
 mod layout;
 
 ghost use Rattle.std.specs.Prelude.{◌≡◌, ◌+◌, ◌/◌, ◌%◌, ◌≤◌, min, replicate};
@@ -26,14 +27,14 @@ use refusal::Refusal;
 use wire::flag;
 
 // What a list's call says: listed, or a refusal, and then the list is empty.
-#[derive(Drop)]
+#[derive(Clone, Copy)]
 pub enum ListAnswer {
     Listed,
     No(Refusal),
 }
 
 // A sync manager: modes, directions and usages by their numbers in the Rust.
-#[derive(Drop)]
+#[derive(Clone, Copy)]
 pub struct SyncManager {
     pub start_addr: u16,
     pub length_bytes: u16,
@@ -47,7 +48,7 @@ pub struct SyncManager {
 }
 
 // At most 8; a place from the count on is all zero.
-#[derive(Drop)]
+#[derive(Clone, Copy)]
 pub struct SyncManagers {
     pub answer: ListAnswer,
     pub count: usize,
@@ -55,7 +56,7 @@ pub struct SyncManagers {
 }
 
 // The usage of each FMMU, or the sync manager of each extended one: at most 16; a place from the count on is 0.
-#[derive(Drop)]
+#[derive(Clone, Copy)]
 pub struct FmmuList {
     pub answer: ListAnswer,
     pub count: usize,
@@ -63,7 +64,7 @@ pub struct FmmuList {
 }
 
 // A PDO; its bit length is the sum of its entries'.
-#[derive(Drop)]
+#[derive(Clone, Copy)]
 pub struct Pdo {
     pub index: u16,
     pub num_entries: u8,
@@ -72,7 +73,7 @@ pub struct Pdo {
 }
 
 // At most 64; a place from the count on is all zero.
-#[derive(Drop)]
+#[derive(Clone, Copy)]
 pub struct PdoList {
     pub answer: ListAnswer,
     pub count: usize,
@@ -80,21 +81,21 @@ pub struct PdoList {
 }
 
 // What stands at a position: a record and where the next one starts, no whole record, or one that its type does not admit.
-#[derive(Drop)]
+#[derive(Clone, Copy)]
 enum SmItem {
     One(SyncManager, u32),
     Stop,
     Bad,
 }
 
-#[derive(Drop)]
+#[derive(Clone, Copy)]
 enum FmmuItem {
     One(u8, u32),
     Stop,
     Bad,
 }
 
-#[derive(Drop)]
+#[derive(Clone, Copy)]
 enum PdoItem {
     One(Pdo, u32),
     Stop,
@@ -102,7 +103,7 @@ enum PdoItem {
 }
 
 // The two lists of FMMUs.
-#[derive(Drop)]
+#[derive(Clone, Copy)]
 enum FmmuKind {
     Usage,
     Ex,

@@ -7,7 +7,7 @@ use sii::AliasSet;
 use wire::byte_at;
 
 // The bytes of alias and checksum.
-#[derive(Drop)]
+#[derive(Clone, Copy)]
 struct Bytes {
     low: u8,
     high: u8,

@@ -1,5 +1,6 @@
 // The fitter's tool: prints what an EEPROM image or a frame holds, sets an alias, shows how an image is cut over frames.
 // docs/MOREL.md has its lines. Every command gets an answer, whatever the files' bytes are.
+#![tactic(auto)]
 mod alias;
 mod cut;
 mod file;

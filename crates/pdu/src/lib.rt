@@ -1,5 +1,7 @@
 // What a PDU and a frame are on the wire, and the packing of their headers: pdu_header.rs, pdu_flags.rs and frame_header.rs of the Rust.
 // RULES, frames. The builder and the reader share the definitions in specs/ and the record of a PDU's fields.
+#![tactic(auto)]
+
 ghost use Rattle.std.specs.Prelude.{◌≡◌, ◌%◌, ◌≤◌};
 ghost use Rattle.pdu.specs.Pdu.{area_most, header_of, frame_header};
 ghost use Rattle.pdu.specs.Read.{length_of, rightly};
@@ -45,7 +47,7 @@ pub const AREA_MOST: usize = 2047;
 pub const PDUS_MOST: usize = 170;
 
 // A PDU's fields as they are read. Its payload lies at `place`, counted from the frame's first byte, for `len` bytes.
-#[derive(Drop)]
+#[derive(Clone, Copy)]
 pub struct PduFields {
     pub command: u8,
     pub index: u8,
@@ -59,7 +61,7 @@ pub struct PduFields {
 }
 
 // What packing a frame's header answers.
-#[derive(Drop)]
+#[derive(Clone, Copy)]
 pub enum HeaderAnswer {
     // The two bytes are the header.
     Header,
@@ -68,7 +70,7 @@ pub enum HeaderAnswer {
 }
 
 // The answer and the two bytes, which are zero where it is a refusal.
-#[derive(Drop)]
+#[derive(Clone, Copy)]
 pub struct FrameHead {
     pub answer: HeaderAnswer,
     pub bytes: [u8; 2],

@@ -1,6 +1,8 @@
 // A device's ports: which are active, when each saw the frame, which device hangs on each; and the delays between them.
 // Follows ethercrab's src/subdevice/ports.rs, by value; RULES, ports.
 // Places 0, 1, 2, 3 hold ports 0, 3, 1, 2, the order in which a frame passes them. The place decides, whatever `number` a record holds.
+#![tactic(auto)]
+
 ghost use Rattle.std.specs.Prelude.{◌≡◌};
 ghost use Rattle.ports.specs.Ports.{fresh, times_set};
 ghost use Rattle.ports.specs.Answers.{said_port, said_time, said_topology, said_text, entry_said, last_said, linked_said, topology_said};
@@ -27,7 +29,7 @@ mod text;
 const PORT_COUNT: u8 = 4;
 
 // The downstream device on a port.
-#[derive(Drop)]
+#[derive(Clone, Copy)]
 pub enum Link {
     // No device.
     Free,
@@ -36,7 +38,7 @@ pub enum Link {
 }
 
 // One port of a device.
-#[derive(Drop)]
+#[derive(Clone, Copy)]
 pub struct Port {
     pub active: bool,
     // When the port saw the frame, by the device's clock, in nanoseconds.
@@ -47,11 +49,11 @@ pub struct Port {
 }
 
 // The ports 0, 3, 1, 2, in this order.
-#[derive(Drop)]
+#[derive(Clone, Copy)]
 pub struct Ports(pub [Port; 4]);
 
 // How a device stands in the segment, by its count of active ports.
-#[derive(Drop)]
+#[derive(Clone, Copy)]
 pub enum Topology {
     // 1 active port: the last of its branch.
     LineEnd,
@@ -64,7 +66,7 @@ pub enum Topology {
 }
 
 // Which port.
-#[derive(Drop)]
+#[derive(Clone, Copy)]
 pub enum PortAnswer {
     // The port with this number.
     At(u8),
@@ -73,7 +75,7 @@ pub enum PortAnswer {
 }
 
 // How long, in nanoseconds.
-#[derive(Drop)]
+#[derive(Clone, Copy)]
 pub enum TimeAnswer {
     Time(u32),
     Absent,
@@ -81,21 +83,21 @@ pub enum TimeAnswer {
 }
 
 // Which topology.
-#[derive(Drop)]
+#[derive(Clone, Copy)]
 pub enum TopologyAnswer {
     Is(Topology),
     No(Refusal),
 }
 
 // How many bytes of text.
-#[derive(Drop)]
+#[derive(Clone, Copy)]
 pub enum TextAnswer {
     Written(usize),
     No(Refusal),
 }
 
 // The port that was linked, and the record after that.
-#[derive(Drop)]
+#[derive(Clone, Copy)]
 pub struct Assigned {
     pub answer: PortAnswer,
     pub ports: Ports,

@@ -1,5 +1,6 @@
 // What came back (RULES, received): a returned frame is matched with the handles that pushing gave. It follows received_frame.rs of the Rust.
 // The place decides: the k-th handle is the k-th PDU's, whatever their indices are.
+#![tactic(auto)]
 ghost use Rattle.std.specs.Prelude.{◌≡◌, ◌+◌, ◌*◌, ◌≤◌, ◌<◌, [], drop};
 ghost use Rattle.wire.specs.Bytes.{word_past};
 ghost use Rattle.pdu.specs.Pdu.{area_most, frame_header_bytes, pdus_most};
@@ -24,7 +25,7 @@ const HANDLE_INDEX_AT: usize = 2;
 const COMMAND_AT: usize = 3;
 
 // What came back of a PDU: its payload lies at `place`, counted from the frame's first byte, for `len` bytes, and its working counter is this.
-#[derive(Drop)]
+#[derive(Clone, Copy)]
 pub struct ReceivedPdu {
     pub place: usize,
     pub len: u16,
@@ -32,7 +33,7 @@ pub struct ReceivedPdu {
 }
 
 // What receiving a frame answers.
-#[derive(Drop)]
+#[derive(Clone, Copy)]
 pub enum ReceivedAnswer {
     // Every PDU is its handle's, and the list has them.
     Matched,
@@ -41,7 +42,7 @@ pub enum ReceivedAnswer {
 }
 
 // The answer, and the PDUs in order; a place past the count holds zeros.
-#[derive(Drop)]
+#[derive(Clone, Copy)]
 pub struct Received {
     pub answer: ReceivedAnswer,
     pub count: usize,
@@ -49,7 +50,7 @@ pub struct Received {
 }
 
 // What is found of one PDU.
-#[derive(Drop)]
+#[derive(Clone, Copy)]
 enum Verdict {
     Right,
     Wrong(Refusal),

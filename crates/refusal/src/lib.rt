@@ -1,9 +1,11 @@
 // The refusals (RULES, refusals), and the number that each is known by.
 // Every answer of the crates above is put on paper as `Said` (specs/Said.antt), and the promises are equations of it.
+#![tactic(auto)]
+
 ghost use Rattle.std.specs.Prelude.{◌≡◌, [], ◌∷◌, length, take};
 ghost use Rattle.refusal.specs.Said.{number_of, values_of, values_row};
 
-#[derive(Drop)]
+#[derive(Clone, Copy)]
 pub enum Refusal {
     // 1: an address rule is broken.
     Address,
@@ -44,7 +46,7 @@ pub enum Refusal {
 }
 
 // The values of a refusal: the first `count` of the two, and the others are 0.
-#[derive(Drop)]
+#[derive(Clone, Copy)]
 pub struct ValueRow {
     pub count: usize,
     pub items: [u64; 2],

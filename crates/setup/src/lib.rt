@@ -1,5 +1,6 @@
 // The words of the SII's fixed area that ethercrab does not read: PDI control, bootstrap mailbox, version, and the checksum beside what it should be.
 // Follows `SiiCoding` of eeprom/types.rs (ETG2010 Table 2, ETG1000.6 Table 16); specs/Layout.antt says where each field lies.
+#![tactic(auto)]
 ghost use Rattle.std.specs.Prelude.{◌≡◌, [], ◌∷◌};
 ghost use Rattle.refusal.specs.Said.{said_of};
 ghost use Rattle.crc.specs.Crc.{crc_of};
@@ -31,7 +32,7 @@ const BOOTSTRAP_SEND_MAILBOX_SIZE: u32 = 46;
 const SII_VERSION: u32 = 126;
 
 // What the registers of the PDI and of the sync signals start with.
-#[derive(Drop)]
+#[derive(Clone, Copy)]
 pub struct PdiControl {
     pub pdi_control: u16,
     pub pdi_configuration: u16,
@@ -40,14 +41,14 @@ pub struct PdiControl {
     pub pdi_configuration2: u16,
 }
 
-#[derive(Drop)]
+#[derive(Clone, Copy)]
 pub enum PdiAnswer {
     Is(PdiControl),
     No(Refusal),
 }
 
 // The mailbox of the state Bootstrap: where the SubDevice receives and sends.
-#[derive(Drop)]
+#[derive(Clone, Copy)]
 pub struct BootstrapMailbox {
     pub subdevice_receive_offset: u16,
     pub subdevice_receive_size: u16,
@@ -55,27 +56,27 @@ pub struct BootstrapMailbox {
     pub subdevice_send_size: u16,
 }
 
-#[derive(Drop)]
+#[derive(Clone, Copy)]
 pub enum BootstrapAnswer {
     Is(BootstrapMailbox),
     No(Refusal),
 }
 
 // The version of the SII.
-#[derive(Drop)]
+#[derive(Clone, Copy)]
 pub enum VersionAnswer {
     Version(u16),
     No(Refusal),
 }
 
 // The checksum that is stored, and the one that the bytes before it have. They are equal where the stored one is right.
-#[derive(Drop)]
+#[derive(Clone, Copy)]
 pub struct Checksums {
     pub stored: u8,
     pub computed: u8,
 }
 
-#[derive(Drop)]
+#[derive(Clone, Copy)]
 pub enum ChecksumAnswer {
     Is(Checksums),
     No(Refusal),

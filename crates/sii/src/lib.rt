@@ -1,5 +1,6 @@
 // What is read out of the SII's fixed area and of its category General, and setting the station alias.
 // Follows subdevice/eeprom.rs and eeprom/types.rs; RULES, read-out. specs/Layout.antt says where each field lies.
+#![tactic(auto)]
 pub mod layout;
 
 ghost use Rattle.std.specs.Prelude.{◌≡◌, [], ◌∷◌, ◌+◌, ◌/◌, ◌%◌, ◌≤◌, length};
@@ -24,27 +25,27 @@ use refusal::Refusal;
 use wire::{flag, lay};
 
 // The configured station alias.
-#[derive(Drop)]
+#[derive(Clone, Copy)]
 pub enum AliasAnswer {
     Alias(u16),
     No(Refusal),
 }
 
 // Whether the alias was set.
-#[derive(Drop)]
+#[derive(Clone, Copy)]
 pub enum AliasSet {
     Done,
     No(Refusal),
 }
 
 // The size of the EEPROM in bytes.
-#[derive(Drop)]
+#[derive(Clone, Copy)]
 pub enum SizeAnswer {
     Bytes(u32),
     No(Refusal),
 }
 
-#[derive(Drop)]
+#[derive(Clone, Copy)]
 pub struct SubDeviceIdentity {
     pub vendor_id: u32,
     pub product_id: u32,
@@ -52,14 +53,14 @@ pub struct SubDeviceIdentity {
     pub serial: u32,
 }
 
-#[derive(Drop)]
+#[derive(Clone, Copy)]
 pub enum IdentityAnswer {
     Is(SubDeviceIdentity),
     No(Refusal),
 }
 
 // The standard mailbox: where the SubDevice receives and sends, and the protocols that it knows, a bit each.
-#[derive(Drop)]
+#[derive(Clone, Copy)]
 pub struct DefaultMailbox {
     pub subdevice_receive_offset: u16,
     pub subdevice_receive_size: u16,
@@ -68,14 +69,14 @@ pub struct DefaultMailbox {
     pub supported_protocols: u8,
 }
 
-#[derive(Drop)]
+#[derive(Clone, Copy)]
 pub enum MailboxAnswer {
     Is(DefaultMailbox),
     No(Refusal),
 }
 
 // The category General.
-#[derive(Drop)]
+#[derive(Clone, Copy)]
 pub struct SiiGeneral {
     pub group_string_idx: u8,
     pub image_string_idx: u8,
@@ -95,7 +96,7 @@ pub struct SiiGeneral {
 }
 
 // The kinds of the ports: not used (0), MII, reserved, EBus, fast hot connect.
-#[derive(Drop)]
+#[derive(Clone, Copy)]
 pub struct PhysicalPorts {
     pub port0: u8,
     pub port1: u8,
@@ -103,21 +104,21 @@ pub struct PhysicalPorts {
     pub port3: u8,
 }
 
-#[derive(Drop)]
+#[derive(Clone, Copy)]
 pub enum PortsAnswer {
     Is(PhysicalPorts),
     No(Refusal),
 }
 
 // A field of General of 16 bits.
-#[derive(Drop)]
+#[derive(Clone, Copy)]
 pub enum WordAnswer {
     Word(u16),
     No(Refusal),
 }
 
 // General, where it is found.
-#[derive(Drop)]
+#[derive(Clone, Copy)]
 pub enum GeneralFound {
     Is(SiiGeneral),
     Absent,
@@ -125,7 +126,7 @@ pub enum GeneralFound {
 }
 
 // General, where it is needed.
-#[derive(Drop)]
+#[derive(Clone, Copy)]
 pub enum GeneralAnswer {
     Is(SiiGeneral),
     No(Refusal),

@@ -1,5 +1,6 @@
 // A process image spread over a row of areas of one size: one logical PDU for each area that has room (RULES, spreading).
 // The Rust leaves this to its callers. The rule is specs/Row.antt, and the contract `Promised` says that the call follows it; what that comes to is one statement, specs/Demand.antt.
+#![tactic(auto)]
 ghost use Rattle.std.specs.Prelude.{◌≡◌, ◌+◌, ◌-◌, ◌*◌, ◌≤◌, [], length, take, drop};
 ghost use Rattle.wire.specs.Bytes.{overlay};
 ghost use Rattle.pdu.specs.Pdu.{area_most};
@@ -25,7 +26,7 @@ const COMMAND_LAST: u8 = 12;
 const ADDRESS_END: usize = 4294967296;
 
 // What a spreading answers.
-#[derive(Drop)]
+#[derive(Clone, Copy)]
 pub enum SpreadAnswer {
     // The last area's number, from 1; 0 where the image is empty.
     Last(usize),
@@ -34,7 +35,7 @@ pub enum SpreadAnswer {
 }
 
 // Its answer, the builder's state of each area up to the last, and the index of the next PDU.
-#[derive(Drop)]
+#[derive(Clone, Copy)]
 pub struct Spreading {
     pub answer: SpreadAnswer,
     // The places behind the last area's hold the state of an empty area.

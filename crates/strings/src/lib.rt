@@ -1,6 +1,7 @@
 // Strings of the SII into a lent room: `find_string`, `device_name` and `device_description` of ethercrab's subdevice/eeprom.rs.
 // RULES, strings, decides; specs/Strings.antt and specs/Names.antt have its rules in its order.
 // A string is found by reading alone, and the room is written once it is known to be readable: a refusal has touched nothing.
+#![tactic(auto)]
 ghost use Rattle.std.specs.Prelude.{◌≡◌, List, [], ◌∷◌, true, ℕ, ◌+◌, ◌-◌, ◌≤◌, ◌<◌, length};
 ghost use Rattle.wire.specs.Bytes.{span, overlay};
 ghost use Rattle.eeprom.specs.Image.{image_most, fine};
@@ -21,7 +22,7 @@ const ROOM_MOST: usize = 255;
 const ASCII_END: u8 = 0x80;
 
 // What a call on strings answers.
-#[derive(Drop)]
+#[derive(Clone, Copy)]
 pub enum StringAnswer {
     // The text stands at the front of the room, so many bytes.
     Length(u16),
@@ -33,7 +34,7 @@ pub enum StringAnswer {
 }
 
 // Where a string's bytes stand, and how many are stored.
-#[derive(Drop)]
+#[derive(Clone, Copy)]
 enum Place {
     At(Pos, u16),
     Absent,

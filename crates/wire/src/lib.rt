@@ -1,5 +1,7 @@
 // Bytes: total reads of 8, 16 and 32 bits, low byte first, and the one loop that lays bytes over a slice.
 // What stands past a slice's end reads as 0xFF, as it does of the EEPROM image (RULES, range).
+#![tactic(auto)]
+
 ghost use Rattle.std.specs.Prelude.{◌≡◌, ℕ, ◌+◌, ◌*◌, ◌≤◌, ◌<◌, min, length, take, replicate};
 ghost use Rattle.wire.specs.Bytes.{byte_past, word_past, byte_at, le16, le32, overlay, laid, bit};
 

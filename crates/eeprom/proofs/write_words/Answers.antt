@@ -1,0 +1,61 @@
+-- `eeprom::write_words` comes to the closed form word by word: the loop has laid the first n bytes of the padded data, and n is no more than m words have.
+use borrow.Author.Rules.{rules}
+use Prim.Native.Nat.{ℕ, ◌≤◌, ◌+◌, ◌*◌}
+use mathlib.Core.Path.{◌≡◌, refl, sym, ap, ◌∙◌}
+use mathlib.Core.List.{List}
+use lib.ListN.{length}
+use Rattle.refusal.specs.Said.{Said}
+use Rattle.eeprom.specs.Answers.{said_writing}
+use Rattle.eeprom.specs.declared.Writing.{Writing}
+use Rattle.eeprom.specs.declared.WordsWritten.{WordsWritten}
+use Rattle.eeprom.specs.Range.{words_laid, words_asked}
+use Rattle.eeprom.proofs.Words.{bytes_laid, none-laid, word-laid, written-more, written_all, written_limit, written_stop, asked_end, asked_data}
+use Rattle.eeprom.proofs.write_words.Goals as goal
+use Rattle.eeprom.proofs.write_words.Goals.{then-loop-at-test+else-n-bytes, else-loop-at-test}
+
+-- a way out: what a write done says, where it stands and ends, and what is laid, where n bytes are m words
+leaves : (image₀ image bytes : List ℕ) (pos end at n m : ℕ) (answer : Writing) (w : WordsWritten) (s : Said) → w ≡ record { answer = answer; range = record { byte_pos = at; end = end } }
+    → image ≡ bytes_laid image₀ pos n bytes → at ≡ pos + n → (n ≡ 2 * m) × (s ≡ said_writing answer)
+    → (said_writing w.answer ≡ s) × (((w.range.byte_pos ≡ pos + 2 * m) × (w.range.end ≡ end)) × (image ≡ words_laid image₀ pos m bytes))
+unfolding words_laid
+leaves image₀ image bytes pos end at n m answer w s d i p e =
+    (ap (λ (x : WordsWritten). said_writing x.answer) d ∙ sym e.1, ((ap (λ (x : WordsWritten). x.range.byte_pos) d ∙ p ∙ ap (λ (k : ℕ). pos + k) e.0, ap (λ (x : WordsWritten). x.range.end) d), i ∙ ap (λ (k : ℕ). bytes_laid image₀ pos k bytes) e.0))
+
+pub loop-at-init : goal.loop-at-init
+loop-at-init c =
+    let a = c.args in
+    (none-laid a.image.now a.pos a.bytes.now, search rules, refl, search rules, search rules, search rules)
+
+pub returns-then-at-gt-POS_MOST : goal.returns-then-at-gt-POS_MOST
+returns-then-at-gt-POS_MOST c =
+    let d = c.write_done.ensures in
+    let l = c.loop-at in
+    let a = c.args in
+    let e = written_limit (length a.image.now) a.pos a.end (length a.bytes.now) l.n l.invariant.2 l.invariant.1 (search rules) (search rules) (search rules) in record { said = (leaves _ _ _ _ _ _ _ _ _ _ _ d l.invariant.0 l.invariant.4 e).0; stands = (leaves _ _ _ _ _ _ _ _ _ _ _ d l.invariant.0 l.invariant.4 e).1.0; lent = (leaves _ _ _ _ _ _ _ _ _ _ _ d l.invariant.0 l.invariant.4 e).1.1 }
+
+pub loop-at-preserved : goal.loop-at-preserved
+loop-at-preserved c =
+    let l = c.loop-at in
+    let a = c.args in
+    let at : l.at ≡ a.pos + l.n = l.invariant.4 in
+    let more = written-more (length a.image.now) a.pos a.end (length a.bytes.now) l.n l.invariant.2 (search rules) (search rules) (search rules) (search rules) in
+    (rw (c.write_word.ensures, c.or_pad.ensures, l.invariant.0, at) (word-laid a.image.now a.pos a.end a.bytes.now l.n l.invariant.2 more), more, search rules, search rules, search rules, search rules)
+
+pub returns-else-start_word-image : goal.returns-else-start_word-image
+returns-else-start_word-image c =
+    let d = c.write_done-else-start_word-image.ensures in
+    let l = c.loop-at in
+    let a = c.args in
+    let e = written_stop (length a.image.now) a.pos a.end (length a.bytes.now) l.n l.invariant.2 l.invariant.1 (search rules) (search rules) (search rules) (search rules) in record { said = (leaves _ _ _ _ _ _ _ _ _ _ _ d l.invariant.0 l.invariant.4 e).0; stands = (leaves _ _ _ _ _ _ _ _ _ _ _ d l.invariant.0 l.invariant.4 e).1.0; lent = (leaves _ _ _ _ _ _ _ _ _ _ _ d l.invariant.0 l.invariant.4 e).1.1 }
+
+pub returns : goal.returns
+returns c =
+    let d = c.write_done-2.ensures in
+    let l = c.loop-at in
+    let a = c.args in
+    let k : 2 * words_asked a.pos a.end (length a.bytes.now) ≤ l.n =
+    elim c.loop-at-test.branch [
+      | then-loop-at-test+else-n-bytes w ↦ asked_data a.pos a.end (length a.bytes.now) l.n l.invariant.2 (search rules)
+      | else-loop-at-test w ↦ asked_end a.pos a.end (length a.bytes.now) l.n l.invariant.2 (search rules)
+    ] in
+    let e = written_all (length a.image.now) a.pos a.end (length a.bytes.now) l.n l.invariant.1 k in record { said = (leaves _ _ _ _ _ _ _ _ _ _ _ d l.invariant.0 l.invariant.4 e).0; stands = (leaves _ _ _ _ _ _ _ _ _ _ _ d l.invariant.0 l.invariant.4 e).1.0; lent = (leaves _ _ _ _ _ _ _ _ _ _ _ d l.invariant.0 l.invariant.4 e).1.1 }
