@@ -10,7 +10,7 @@ use borrow.Author.Tests.{leb-true, leb-false, lt-leb}
 use Rattle.refusal.specs.Said.{pick}
 use Rattle.wire.specs.Bytes.{byte_at, Bytes}
 use Rattle.sii.specs.Layout.{Field, byte, word, long, past, field}
-use Rattle.lists.specs.Layout.{sm_bytes, fmmu_bytes, ex_bytes, pdo_bytes, entry_bytes, bit_length, physical_start_address, sm_length, control_register, enable_sync_m, sync_m_type, fmmu_usage, ex_sync_m, pdo_index, n_entry, pdo_sync_m}
+use Rattle.lists.specs.Layout.{sm_bytes, fmmu_bytes, ex_bytes, pdo_bytes, entry_bytes, physical_start_address, sm_length, control_register, enable_sync_m, sync_m_type, fmmu_usage, ex_sync_m, pdo_index, n_entry, pdo_sync_m}
 use Rattle.lists.specs.Records.{Item, one, none, bad}
 use Rattle.lists.specs.Inside.{SameIn, Moves, Stops, Local}
 use Rattle.lists.specs.SyncManagers.{sm_of, sm_admits, sm_at}

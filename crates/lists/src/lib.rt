@@ -1,6 +1,7 @@
 // The lists of the SII: sync managers, FMMUs and PDOs, the records of a category one behind the other, in a counted array.
 // Follows subdevice/eeprom.rs and eeprom/types.rs; RULES, lists. specs/Layout.antt says where each field lies.
 #![tactic(auto)]
+
 mod layout;
 
 ghost use Rattle.std.specs.Prelude.{◌≡◌, ◌+◌, ◌/◌, ◌%◌, ◌≤◌, min, replicate};

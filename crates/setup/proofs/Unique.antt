@@ -1,7 +1,6 @@
 -- An answer is known from what it says, by an inverse: so each promise on what is said allows one answer.
-use Prim.Native.Nat.{ℕ}
 use mathlib.Core.Path.{◌≡◌, refl, ap}
-use mathlib.Core.List.{List, []}
+use mathlib.Core.List.{[]}
 use lib.ListN.{get_or}
 use Rattle.refusal.specs.Said.{Said, gives, absent, refuses}
 use Rattle.refusal.proofs.Unique.{unique, refusal_of, back}

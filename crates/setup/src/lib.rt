@@ -1,6 +1,7 @@
 // The words of the SII's fixed area that ethercrab does not read: PDI control, bootstrap mailbox, version, and the checksum beside what it should be.
 // Follows `SiiCoding` of eeprom/types.rs (ETG2010 Table 2, ETG1000.6 Table 16); specs/Layout.antt says where each field lies.
 #![tactic(auto)]
+
 ghost use Rattle.std.specs.Prelude.{◌≡◌, [], ◌∷◌};
 ghost use Rattle.refusal.specs.Said.{said_of};
 ghost use Rattle.crc.specs.Crc.{crc_of};

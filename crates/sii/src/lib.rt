@@ -1,6 +1,7 @@
 // What is read out of the SII's fixed area and of its category General, and setting the station alias.
 // Follows subdevice/eeprom.rs and eeprom/types.rs; RULES, read-out. specs/Layout.antt says where each field lies.
 #![tactic(auto)]
+
 pub mod layout;
 
 ghost use Rattle.std.specs.Prelude.{◌≡◌, [], ◌∷◌, ◌+◌, ◌/◌, ◌%◌, ◌≤◌, length};
