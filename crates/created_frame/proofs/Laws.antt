@@ -1,5 +1,5 @@
 -- Laws of the definitions that the contracts cite: what an accepted state is, how a PDU is laid, and each way out of a push.
-use Rattle.std.proofs.Common.{◌≡◌, ℕ, ◌+◌, ◌*◌, ◌%◌, ◌^◌, ◌<◌, ◌≤◌, max, Bool, true, false, ◌&&◌, eqb, leb, ◌≢◌, List, length, take, sym, refl, ap, ◌∙◌, arith, length-set, eq-eqb, ne_eqb, eqb-true, le-leb, leb-true}
+use Rattle.std.proofs.Common.{◌≡◌, ℕ, ◌+◌, ◌*◌, ◌%◌, ◌^◌, ◌<◌, ◌≤◌, max, Bool, true, false, ◌&&◌, eqb, leb, ◌≢◌, List, length, take, sym, refl, ap, ◌∙◌, arith, length-set, length-take, eq-eqb, ne_eqb, eqb-true, le-leb, leb-true}
 use borrow.Author.Tests.{eqb-false, lt-leb}
 use Rattle.refusal.specs.Said.{pick}
 use Rattle.refusal.specs.declared.Refusal.TheVariants.{TooLong, BadArgument}
@@ -91,6 +91,12 @@ pdu_laid xs ys zs ws head bytes b index command address len r y d z w =
 -- where there is room for a PDU
 pub has_room : (size : ℕ) (b : Builder) (len given : ℕ) → Sound size b → b.used + (len + 12) ≤ size → given ≤ len → Roomy size b len given
 has_room size b len given s h g = record { small = s.small; fits = h; given_fits = g; counted = s.counted; header_in = s.header_in }
+
+-- .. and for one of as many bytes as have room, where some have
+pub rest_room : (size : ℕ) (b : Builder) (n : ℕ) (bytes : List ℕ) → Sound size b → n ≡ taken size b.used (length bytes) → (n ≡ 0 → ⊥) → Roomy size b n (length (take n bytes))
+rest_room size b n bytes s e z =
+    let f : b.used + (n + 12) ≤ size = omega arith in
+    has_room size b n (length (take n bytes)) s f (omega (arith, length-take n bytes))
 
 -- what has it in an area has it in the largest
 pub in_largest : (size : ℕ) (b : Builder) (len given : ℕ) → Roomy size b len given → Roomy area_most b len 0

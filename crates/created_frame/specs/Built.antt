@@ -1,5 +1,5 @@
 -- What our builder leaves in an area: PDUs, one after the other, and zeros. Definitions only.
-use Rattle.std.specs.Prelude.{◌≡◌, ℕ, ◌+◌, ◌-◌, ◌<◌, ◌≤◌, max, List, [], ◌∷◌, ◌++◌, length, take, replicate, ◌==◌}
+use Rattle.std.specs.Prelude.{◌≡◌, ℕ, ◌-◌, ◌<◌, ◌≤◌, max, List, [], ◌∷◌, ◌++◌, length, take, replicate, ◌==◌}
 use Rattle.refusal.specs.Said.{pick}
 use Rattle.wire.specs.Bytes.{long_past}
 use Rattle.pdu.specs.Pdu.{area_most, Pdu, layout, last_at, AllFit}

@@ -1,5 +1,5 @@
 -- What a push answers, and what it leaves: the area's bytes, the builder's state, the index counter (RULES, frames). Definitions only.
-use Rattle.std.specs.Prelude.{ℕ, ◌+◌, ◌-◌, ◌*◌, ◌%◌, ◌<◌, ◌≤◌, min, max, Bool, ◌&&◌, List, [], ◌∷◌, ◌++◌, length, take, set, replicate, ◌==◌, nat_le, slice_set}
+use Rattle.std.specs.Prelude.{ℕ, ◌+◌, ◌-◌, ◌*◌, ◌%◌, ◌<◌, ◌≤◌, min, max, Bool, ◌&&◌, List, [], ◌∷◌, ◌++◌, length, take, replicate, ◌==◌, nat_le, slice_set}
 use Rattle.refusal.specs.Said.{Said, gives, absent, refuses, pick}
 use Rattle.wire.specs.Bytes.{byte_past, byte_at, overlay}
 use Rattle.pdu.specs.Pdu.{area_most, pdu_overhead, header_bytes, more_at, more_in_byte, header_of}

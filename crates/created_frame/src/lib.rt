@@ -1,6 +1,7 @@
 // The frame builder: PDUs pushed one after the other into a lent area. It follows created_frame.rs of the Rust and RULES, frames;
 // headers are packed by `pdu`. The state of an area goes in and comes back by value, and so does the index counter.
 #![tactic(auto)]
+
 ghost use Rattle.std.specs.Prelude.{◌≡◌, ◌+◌, ◌<◌, ◌≤◌, max, length};
 ghost use Rattle.pdu.specs.Pdu.{area_most, pdu_overhead, more_at};
 ghost use Rattle.created_frame.specs.Frame.{marked, sound, acceptable, with_pdu, Roomy, grown, pushed, pushed_builder, pushed_next, after_push, opened, after_open, taken, rest_pushed, rest_builder, rest_next, after_rest, can_push};
@@ -89,6 +90,7 @@ pub enum CanPush {
 }
 
 // Zeroes the area, and gives the state of an empty one.
+#[tactic(auto, unfolding(crate::specs::Frame::opened, crate::specs::Frame::after_open))]
 pub fn open(area: &mut [u8]) -> Opened
     ensures answer { said_opened result ≡ opened (length area.old) }
     ensures whole { area.new ≡ after_open area.old }
@@ -105,6 +107,7 @@ pub fn open(area: &mut [u8]) -> Opened
 }
 
 // Pushes a PDU of these bytes; its payload is as long as the larger of their count and `over`.
+#[tactic(auto, using(crate::proofs::Laws::accepted, crate::proofs::Laws::has_room, crate::proofs::Laws::in_largest), unfolding(crate::specs::Frame::pushed, crate::specs::Frame::pushed_builder, crate::specs::Frame::pushed_next, crate::specs::Frame::after_push, crate::specs::Frame::room))]
 pub fn push_pdu(
     area: &mut [u8],
     b: Builder,
@@ -136,6 +139,7 @@ pub fn push_pdu(
 }
 
 // Pushes a PDU of the first of these bytes: as many as have room.
+#[tactic(auto, using(crate::proofs::Laws::accepted, crate::proofs::Laws::rest_room, crate::proofs::Laws::in_largest), unfolding(crate::specs::Frame::rest_pushed, crate::specs::Frame::rest_builder, crate::specs::Frame::rest_next, crate::specs::Frame::after_rest))]
 pub fn push_pdu_slice_rest(
     area: &mut [u8],
     b: Builder,
@@ -169,6 +173,7 @@ pub fn push_pdu_slice_rest(
 }
 
 // Whether a PDU of len payload bytes has room.
+#[tactic(auto, unfolding(crate::specs::Frame::can_push, crate::specs::Frame::room, crate::specs::Frame::sound))]
 pub fn can_push_pdu_payload(size: usize, b: Builder, len: usize) -> CanPush
     ensures { said_can result ≡ can_push size b len }
 {
@@ -182,6 +187,7 @@ pub fn can_push_pdu_payload(size: usize, b: Builder, len: usize) -> CanPush
 }
 
 // The state fits an area of size bytes.
+#[tactic(auto, unfolding(crate::specs::Frame::sound))]
 pub fn is_sound(size: usize, b: Builder) -> bool
     ensures { result ≡ sound size b }
 {
@@ -229,6 +235,7 @@ pub fn handle_row(h: PduResponseHandle) -> [u64; 4]
 }
 
 // State, command and lengths are within the bounds.
+#[tactic(auto, unfolding(crate::specs::Frame::acceptable))]
 fn is_acceptable(size: usize, b: Builder, command: u8, given: usize, over: usize) -> bool
     ensures { result ≡ acceptable size b command given over }
 {
@@ -267,6 +274,7 @@ fn rest_len(size: usize, used: usize, given: usize) -> usize
 }
 
 // A PDU of len payload bytes behind the used ones, of which `bytes` are written; its last two bytes, the working counter, are not.
+#[tactic(auto, using(crate::proofs::Laws::pdu_laid))]
 fn append(
     area: &mut [u8],
     b: Builder,
@@ -287,6 +295,7 @@ fn append(
 }
 
 // More-follows, bit 15 of the flags, set in the last PDU, where there is one.
+#[tactic(auto, using(wire::proofs::Laws::byte_in_lem), unfolding(crate::specs::Frame::marked, crate::specs::Frame::more))]
 fn mark(area: &mut [u8], count: usize, last: usize)
     requires { 0 < count → last + more_at < length area.old }
     ensures { area.new ≡ marked area.old count last }
