@@ -1,6 +1,7 @@
 // The distributed clock's modes that the SII lists, its category DC, which ethercrab names and does not read.
 // Follows ETG2010, category DC, and RULES, lists. specs/Layout.antt says where each field lies.
 #![tactic(auto)]
+
 ghost use Rattle.std.specs.Prelude.{◌≡◌, ◌+◌, ◌≤◌, replicate};
 ghost use Rattle.refusal.specs.Said.{number_of, values_of};
 ghost use Rattle.sii.specs.Layout.{place_most};

@@ -1,6 +1,6 @@
 -- A category that stores texts gives the i-th as it is shown, since those before it are passed over one by one;
 -- and what is given is the text of its index in the row that is stored there, which passing over them shows byte by byte.
-use Prim.Native.Nat.{ℕ, zero, suc, ◌+◌, ◌-◌, ◌%◌, ◌≤◌, ◌<◌}
+use Prim.Native.Nat.{ℕ, zero, suc, ◌+◌, ◌-◌, ◌≤◌, ◌<◌}
 use native.Mathlib.Omega.{arith}
 use native.Mathlib.Numerals.{add-one}
 use mathlib.Core.Path.{◌≡◌, refl, sym, ap, ◌∙◌}
@@ -8,12 +8,11 @@ use mathlib.Core.List.{List, [], ◌∷◌, ◌++◌, append-nil}
 use mathlib.Core.Bool.{Bool, true, false}
 use lib.ListN.{length, get_or, take, drop, length-append}
 use lib.Seq.{take_at, drop_at}
-use lib.Dec.{eqb, ltb}
-use borrow.Author.Tests.{le-leb, lt-ltb, ltb-true, ltb-false, eqb-false}
+use lib.Dec.{ltb}
+use borrow.Author.Tests.{le-leb, ltb-true, ltb-false}
 use Rattle.refusal.specs.Said.{Said, gives, absent, refuses, pick, on2, on3}
 use Rattle.wire.specs.Bytes.{byte_at, span}
 use Rattle.wire.proofs.Laws.{length-span, span-add}
-use Rattle.wire.proofs.Stretch.{byte-span}
 use Rattle.eeprom.specs.Image.{within, in_bounds, fine}
 use Rattle.eeprom.specs.Range.{byte_said, skip_said}
 use Rattle.eeprom.proofs.Laws.{fine-bounds, byte-gives, byte-refuses, skip_gives, skip_refuses}

@@ -2,6 +2,7 @@
 // RULES, strings, decides; specs/Strings.antt and specs/Names.antt have its rules in its order.
 // A string is found by reading alone, and the room is written once it is known to be readable: a refusal has touched nothing.
 #![tactic(auto)]
+
 ghost use Rattle.std.specs.Prelude.{◌≡◌, List, [], ◌∷◌, true, ℕ, ◌+◌, ◌-◌, ◌≤◌, ◌<◌, length};
 ghost use Rattle.wire.specs.Bytes.{span, overlay};
 ghost use Rattle.eeprom.specs.Image.{image_most, fine};

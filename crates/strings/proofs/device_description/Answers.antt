@@ -13,8 +13,8 @@ returns-in-Is c =
 
 pub returns-in-No : goal.returns-in-No
 unfolding description_said
-returns-in-No c = let f = c in record { said = (as_refused _ _ _ _ (by_refuses _ _ _ _ _ _ (sym f.sound.ensures ∙ f.if-sound.true) (sym f.general.ensures ∙ ap said_general c.in-No.is))).0; lent = (as_refused _ _ _ _ (by_refuses _ _ _ _ _ _ (sym f.sound.ensures ∙ f.if-sound.true) (sym f.general.ensures ∙ ap said_general c.in-No.is))).1 }
+returns-in-No c = let f = c in record { said = (as_refused _ _ _ c.args.room.now (by_refuses _ _ _ _ _ _ (sym f.sound.ensures ∙ f.if-sound.true) (sym f.general.ensures ∙ ap said_general c.in-No.is))).0; lent = (as_refused _ _ _ c.args.room.now (by_refuses _ _ _ _ _ _ (sym f.sound.ensures ∙ f.if-sound.true) (sym f.general.ensures ∙ ap said_general c.in-No.is))).1 }
 
 pub returns-else-sound : goal.returns-else-sound
 unfolding description_said
-returns-else-sound c = record { said = (as_refused _ _ _ _ (by_out _ _ _ _ (sym c.sound.ensures ∙ c.if-sound.false))).0; lent = (as_refused _ _ _ _ (by_out _ _ _ _ (sym c.sound.ensures ∙ c.if-sound.false))).1 }
+returns-else-sound c = record { said = (as_refused _ _ _ c.args.room.now (by_out _ _ _ _ (sym c.sound.ensures ∙ c.if-sound.false))).0; lent = (as_refused _ _ _ c.args.room.now (by_out _ _ _ _ (sym c.sound.ensures ∙ c.if-sound.false))).1 }

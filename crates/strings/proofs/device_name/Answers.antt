@@ -13,12 +13,12 @@ returns-in-Is c =
 
 pub returns-in-Absent : goal.returns-in-Absent
 unfolding name_said
-returns-in-Absent c = let f = c in record { said = (as_absent _ _ (by_absent _ _ _ _ (sym f.sound.ensures ∙ f.if-sound.true) (sym f.find_general.ensures ∙ ap said_found c.in-Absent.is))).0; lent = (as_absent _ _ (by_absent _ _ _ _ (sym f.sound.ensures ∙ f.if-sound.true) (sym f.find_general.ensures ∙ ap said_found c.in-Absent.is))).1 }
+returns-in-Absent c = let f = c in record { said = (as_absent _ c.args.room.now (by_absent _ _ _ _ (sym f.sound.ensures ∙ f.if-sound.true) (sym f.find_general.ensures ∙ ap said_found c.in-Absent.is))).0; lent = (as_absent _ c.args.room.now (by_absent _ _ _ _ (sym f.sound.ensures ∙ f.if-sound.true) (sym f.find_general.ensures ∙ ap said_found c.in-Absent.is))).1 }
 
 pub returns-in-No : goal.returns-in-No
 unfolding name_said
-returns-in-No c = let f = c in record { said = (as_refused _ _ _ _ (by_refuses _ _ _ _ _ _ (sym f.sound.ensures ∙ f.if-sound.true) (sym f.find_general.ensures ∙ ap said_found c.in-No.is))).0; lent = (as_refused _ _ _ _ (by_refuses _ _ _ _ _ _ (sym f.sound.ensures ∙ f.if-sound.true) (sym f.find_general.ensures ∙ ap said_found c.in-No.is))).1 }
+returns-in-No c = let f = c in record { said = (as_refused _ _ _ c.args.room.now (by_refuses _ _ _ _ _ _ (sym f.sound.ensures ∙ f.if-sound.true) (sym f.find_general.ensures ∙ ap said_found c.in-No.is))).0; lent = (as_refused _ _ _ c.args.room.now (by_refuses _ _ _ _ _ _ (sym f.sound.ensures ∙ f.if-sound.true) (sym f.find_general.ensures ∙ ap said_found c.in-No.is))).1 }
 
 pub returns-else-sound : goal.returns-else-sound
 unfolding name_said
-returns-else-sound c = record { said = (as_refused _ _ _ _ (by_out _ _ _ _ (sym c.sound.ensures ∙ c.if-sound.false))).0; lent = (as_refused _ _ _ _ (by_out _ _ _ _ (sym c.sound.ensures ∙ c.if-sound.false))).1 }
+returns-else-sound c = record { said = (as_refused _ _ _ c.args.room.now (by_out _ _ _ _ (sym c.sound.ensures ∙ c.if-sound.false))).0; lent = (as_refused _ _ _ c.args.room.now (by_out _ _ _ _ (sym c.sound.ensures ∙ c.if-sound.false))).1 }

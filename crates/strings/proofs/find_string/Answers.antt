@@ -2,7 +2,7 @@
 use Prim.Native.Nat.{◌≤◌}
 use lib.ListN.{length}
 use borrow.Author.Rules.{rules}
-use Rattle.strings.specs.Strings.{room_most, string_said}
+use Rattle.strings.specs.Strings.{room_most, string_said, sought_at}
 use Rattle.strings.proofs.Laws.{small_sought, fits-room, text_for_lem, text_not}
 use Rattle.strings.proofs.find_string.Goals as goal
 
@@ -20,4 +20,4 @@ returns-then-sound c = let h = c.text.ensures in record { said = (text_for_lem _
 
 pub returns-else-sound : goal.returns-else-sound
 unfolding string_said
-returns-else-sound c = record { said = (text_not _ _ _ c.sound.ensures _ _ c.if-sound.false).0; lent = (text_not _ _ _ c.sound.ensures _ _ c.if-sound.false).1 }
+returns-else-sound c = record { said = (text_not c.args.image.now (length c.args.room.now) _ c.sound.ensures (sought_at c.args.image.now c.args.index (length c.args.room.now)) c.args.room.now c.if-sound.false).0; lent = (text_not c.args.image.now (length c.args.room.now) _ c.sound.ensures (sought_at c.args.image.now c.args.index (length c.args.room.now)) c.args.room.now c.if-sound.false).1 }

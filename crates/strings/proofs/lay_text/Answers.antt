@@ -1,5 +1,4 @@
 -- `lay_text` lays the text byte by byte: after i turns the text of the first i bytes stands at the room's front.
-use Prim.Native.Nat.{◌-◌}
 use mathlib.Core.Path.{◌≡◌}
 use native.Mathlib.Omega.{arith}
 use borrow.Author.Rules.{rules}

@@ -12,12 +12,12 @@ lay_text-k-requires c =
 
 pub returns-in-At : goal.returns-in-At
 unfolding text_said length_said room_behind on2
-returns-in-At c = record { said = rw (c.in-At.is, c.lay_text-k.ensures.said) (refl); lent = rw (c.in-At.is, c.lay_text-k.ensures.said) (c.lay_text-k.ensures.lent) }
+returns-in-At c = record { said = rw (c.in-At.is, c.lay_text-k.ensures.said) (refl); lent = rw c.in-At.is c.lay_text-k.ensures.lent }
 
 pub returns-in-Absent : goal.returns-in-Absent
 unfolding text_said length_said room_behind on2
-returns-in-Absent c = rw c.in record { said = (-Absent.is (refl, refl)).0; lent = (-Absent.is (refl, refl)).1 }
+returns-in-Absent c = record { said = rw c.in-Absent.is refl; lent = rw c.in-Absent.is refl }
 
 pub returns-in-No : goal.returns-in-No
 unfolding text_said length_said room_behind on2
-returns-in-No c = rw c.in record { said = (-No.is (refl, refl)).0; lent = (-No.is (refl, refl)).1 }
+returns-in-No c = record { said = rw c.in-No.is refl; lent = rw c.in-No.is refl }
