@@ -1,19 +1,16 @@
 -- What `read_frame` does, said of its own result: the contract's equations carry what is read over to the answer and the list, and `Exactly` says what is read.
 use mathlib.Core.Path.{◌≡◌, refl, sym, ap, ◌∙◌}
 use Prim.Native.Nat.{ℕ, ◌-◌}
-use native.Mathlib.Omega.{arith}
-use mathlib.Core.List.{List, [], ◌++◌, map}
+use mathlib.Core.List.{List, [], map}
 use lib.ListN.{length, take, drop}
 use lib.Seq.{take_at, drop_at}
-use Rattle.refusal.specs.Said.{gives, refuses, said_of, number_of, values_of}
+use Rattle.refusal.specs.Said.{gives, refuses, number_of, values_of}
 use Rattle.refusal.specs.declared.Refusal.{Refusal}
 use Rattle.refusal.specs.declared.Refusal.TheVariants.{BadFrame}
 use Rattle.refusal.proofs.Unique.{gives_none}
-use Rattle.wire.specs.Bytes.{Bytes}
 use Rattle.pdu.specs.declared.PduFields.{PduFields}
 use Rattle.pdu.specs.Pdu.{pdus_most, Pdu}
 use Rattle.pdu.specs.Read.{Reading, read, refused, read_of, payload_of, shown_all, pdus_of}
-use Rattle.pdu.specs.Grammar.{WellFormed}
 use Rattle.pdu.proofs.Reading.{shown-length}
 use Rattle.frame_reader.specs.declared.FrameRead.{FrameRead}
 use Rattle.frame_reader.specs.declared.FrameAnswer.{FrameAnswer}

@@ -1,6 +1,7 @@
 // The frame reader (RULES, reader): the PDUs of any bytes that are a frame, else refusal 12. The Rust has none.
 // Two steps, header and body, each calling the other on what is left, find where the PDUs start; a loop then reads their fields.
 #![tactic(auto)]
+
 ghost use Rattle.std.specs.Prelude.{◌≡◌, ℕ, ◌+◌, ◌-◌, ◌*◌, ◌≤◌, ◌<◌, [], length, take};
 ghost use Rattle.wire.specs.Bytes.{word_past};
 ghost use Rattle.pdu.specs.Pdu.{area_most, header_bytes, pdu_overhead, frame_header_bytes, pdus_most};

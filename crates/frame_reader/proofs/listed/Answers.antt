@@ -1,7 +1,7 @@
 -- `frame_reader::listed` reads the PDUs one by one: after k turns the list holds those of the first k places.
 use mathlib.Core.Path.{◌≡◌, refl, sym, ap, ◌∙◌}
 use mathlib.Core.List.{List, map}
-use Prim.Native.Nat.{ℕ, ◌-◌}
+use Prim.Native.Nat.{ℕ}
 use native.Mathlib.Omega.{arith}
 use lib.ListN.{length, take}
 use lib.Seq.{length-take-le}
@@ -20,10 +20,10 @@ loop-k-init c =
     (omega arith, refl, ap (λ (x : FrameRead). x.pdus) e)
 
 pub overflow_cast-places : goal.overflow_cast-places
-overflow_cast-places c = omega (arith, c.shared_slice_known-in-loop-k-1.given c.loop-k.k)
+overflow_cast-places c = omega (arith, c.type_inv.places c.loop-k.k)
 
 pub pdu_at-p-requires : goal.pdu_at-p-requires
-pdu_at-p-requires c = omega (arith, c.shared_slice_known-in-loop-k-1.given c.loop-k.k)
+pdu_at-p-requires c = omega (arith, c.type_inv.places c.loop-k.k)
 
 pub loop-k-preserved : goal.loop-k-preserved
 loop-k-preserved c =

@@ -46,7 +46,7 @@ listed-requires c =
     let x = c.header-found in
     let w = c.word_at-w in
     let r = x.ensures (length s) (omega arith) in
-    let m = whole s (places_at (length s) s 2 (w.result % 2048 + 2)) x.result r.0 _ (replicate 170 0) x.new.1.1.1.1.0 (w.result % 2048 + 2 - 2) refl (few-places (length s) s 2 (w.result % 2048 + 2)) (omega arith) c.in-Good.is r.1 in
+    let m = whole s (places_at (length s) s 2 (w.result % 2048 + 2)) x.result r.0 _ (replicate 170 0) x.new.out (w.result % 2048 + 2 - 2) refl (few-places (length s) s 2 (w.result % 2048 + 2)) (omega arith) c.in-Good.is r.1 in
     (m.0, omega (arith, m.0, x.auto))
 
 pub returns-in-Bad : goal.returns-in-Bad
@@ -75,4 +75,4 @@ returns-in-Good c =
     let fit : length_of (le16 s 0) + 2 ≤ length s = omega arith in
     let ne : length_of (le16 s 0) ≡ 0 → ⊥ = omega arith in
     says-read s c.listed.result (rw (frame-some s le e fit ne, ← w.ensures)
-    (c.listed.ensures ∙ (whole s (places_at (length s) s 2 (w.result % 2048 + 2)) x.result r.0 _ (replicate 170 0) x.new.1.1.1.1.0 (w.result % 2048 + 2 - 2) refl (few-places (length s) s 2 (w.result % 2048 + 2)) (omega arith) c.in-Good.is r.1).1))
+    (c.listed.ensures ∙ (whole s (places_at (length s) s 2 (w.result % 2048 + 2)) x.result r.0 _ (replicate 170 0) x.new.out (w.result % 2048 + 2 - 2) refl (few-places (length s) s 2 (w.result % 2048 + 2)) (omega arith) c.in-Good.is r.1).1))
