@@ -281,7 +281,9 @@ unfolding hex_text
 text_some [] h = absurd (h refl)
 text_some (b ∷ s) h = refl
 
--- what was said of a text is said of one that is equal
-pub said_as : (xs ys : List ℕ) (k r : ℕ) (s t : List ℕ) → s ≡ t → (r ≡ after (length xs) k (length s)) × (ys ≡ laid xs k s)
-    → (r ≡ after (length xs) k (length t)) × (ys ≡ laid xs k t)
-said_as xs ys k r s t e h = rw (← e) h
+-- what was said of a text is said of one that is equal: the next place, and what is laid
+pub next_as : (n k r : ℕ) (s t : List ℕ) → s ≡ t → r ≡ after n k (length s) → r ≡ after n k (length t)
+next_as n k r s t e h = rw (← e) h
+
+pub laid_as : (xs ys : List ℕ) (k : ℕ) (s t : List ℕ) → s ≡ t → ys ≡ laid xs k s → ys ≡ laid xs k t
+laid_as xs ys k s t e h = rw (← e) h

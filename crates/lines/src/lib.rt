@@ -1,6 +1,7 @@
 // What the programs share: the words of a line, numbers and bytes as text, read and written. Every call is total on any bytes.
 // The form of a line is that of docs/DESK.md.
 #![tactic(auto)]
+
 ghost use Rattle.std.specs.Prelude.{◌≡◌, true, ◌≤◌, ◌<◌, length};
 ghost use Rattle.io.specs.Digits.{hex_digit_ascii as glyphOf};
 ghost use Rattle.wire.specs.Bytes.{laid};
