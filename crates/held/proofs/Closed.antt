@@ -3,12 +3,12 @@ use Prim.Native.Nat.{ℕ}
 use mathlib.Core.Path.{◌≡◌, refl, ap}
 use mathlib.Core.List.{List, []}
 use mathlib.Core.Bool.{false}
-use denote.Ref.{MutBor, at_last}
+use denote.Ref.{Bor, MutBor, at_last}
 use Rattle.refusal.specs.Said.{Said, refuses}
 use Rattle.eeprom.specs.Image.{fine}
 use Rattle.eeprom.specs.Range.{new_said}
 use Rattle.eeprom.proofs.Laws.{bounds_odd, fine_odd, skip_bad, byte-bad, read-bad, exact_bad, write-bad}
-use Rattle.held.specs.Range.{alone, stands, ends, closed_end, range_on, range_mut_on, after, moved_to, skip_of, byte_of, read_of, read_into, exact_of, after_exact, exact_into, write_of, written}
+use Rattle.held.specs.Range.{alone, stands, ends, closed_end, range_on, range_mut_on, after, moved_to, skip_of, byte_of, read_of}
 use Rattle.held.specs.Closed.{bad, Closed, ClosedMut}
 use Rattle.held.specs.declared.EepromRange.{EepromRange}
 use Rattle.held.specs.declared.EepromRangeMut.{EepromRangeMut}
@@ -19,13 +19,13 @@ unfolding alone stands
 bad_apart r s e = (ap alone e, ap (after r) e)
 
 -- the closed range over an image
-abbrev shut : MutBor (List ℕ) → EepromRange
+abbrev shut : Bor (List ℕ) → EepromRange
 shut image = record { image = image; byte_pos = 0; end = closed_end }
 
 abbrev shut_mut : MutBor (List ℕ) → EepromRangeMut
 shut_mut image = record { image = image; byte_pos = 0; end = closed_end }
 
-shut_closed : (image : MutBor (List ℕ)) → Closed (shut image)
+shut_closed : (image : Bor (List ℕ)) → Closed (shut image)
 shut_closed image =
     let f : fine image.now 0 closed_end ≡ false = fine_odd image.now 0 closed_end refl in
     record {
@@ -52,6 +52,6 @@ shut_closed_mut image =
     }
 
 -- THEOREM: every later call on the range that a refused `new` hands out is 14 and leaves it as it is
-pub refused_closed : (image : MutBor (List ℕ)) (word words : ℕ) → new_said word words ≡ refuses 1 [] → Closed (range_on image (new_said word words)) × ClosedMut (range_mut_on image (new_said word words))
+pub refused_closed : (image : Bor (List ℕ)) (lent : MutBor (List ℕ)) (word words : ℕ) → new_said word words ≡ refuses 1 [] → Closed (range_on image (new_said word words)) × ClosedMut (range_mut_on lent (new_said word words))
 unfolding stands ends
-refused_closed image word words e = rw e (shut_closed image, shut_closed_mut image)
+refused_closed image lent word words e = rw e (shut_closed image, shut_closed_mut lent)

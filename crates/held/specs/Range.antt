@@ -2,7 +2,7 @@
 -- What the core says of a range made, a skip, a byte and a read ends in the range after it, as position and end: here the answer is said alone, and the range is where it says.
 -- Of an exact read and a write the core says the answer alone, and has the range beside it.
 use Rattle.std.specs.Prelude.{ℕ, ◌-◌, List, length, take, get_or}
-use denote.Ref.{MutBor, at_last}
+use denote.Ref.{Bor, MutBor, at_last}
 use Rattle.refusal.specs.Said.{Said, gives, absent, refuses}
 use Rattle.eeprom.specs.Range.{byte_said, skip_said, read_said, read_buf, exact_said, exact_pos, exact_buf, write_said, write_pos, write_image}
 use Rattle.held.specs.declared.EepromRange.{EepromRange}
@@ -35,7 +35,7 @@ ends (refuses n l) = closed_end
 -- ---- the range
 
 -- the range over this image that the core gives; where it refuses, a closed one at 0
-abbrev pub range_on : MutBor (List ℕ) → Said → EepromRange
+abbrev pub range_on : Bor (List ℕ) → Said → EepromRange
 range_on image s = record { image = image; byte_pos = stands 0 s; end = ends s }
 
 -- the same over an image that is lent to be written

@@ -1,6 +1,7 @@
 // The forms that lend, each thin over its by-value core: `Ports` changed in place, and a range that keeps its image inside it.
 // RULES, forms. No call here decides anything: what it answers and leaves is the core's.
 #![tactic(auto)]
+
 ghost use Rattle.std.specs.Prelude.{◌≡◌};
 ghost use Rattle.ports.specs.Ports.{times_set};
 ghost use Rattle.ports.specs.Answers.{said_port};
@@ -75,7 +76,7 @@ pub struct Opened<'a> {
 }
 
 // The same of an image that is lent to be written.
-#[derive(Clone, Copy)]
+#[derive(Drop)]
 pub struct OpenedMut<'a> {
     pub answer: Outcome,
     pub range: EepromRangeMut<'a>,
