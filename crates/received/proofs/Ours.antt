@@ -1,5 +1,5 @@
 -- The handles that a row of calls gives are those of the PDUs that it adds: a call that adds one says its handle, and one that adds none says none. By the calls' own tests.
-use mathlib.Core.Path.{◌≡◌, refl, ap, sym, ◌∙◌}
+use mathlib.Core.Path.{◌≡◌, refl, ap}
 use mathlib.Core.Bool.{Bool, true, false}
 use Prim.Native.Nat.{ℕ, ◌+◌, ◌%◌, ◌≤◌, max}
 use native.Mathlib.Omega.{arith}
@@ -10,10 +10,10 @@ use Rattle.refusal.specs.Said.{gives, absent, refuses, pick}
 use Rattle.pdu.specs.Pdu.{Pdu}
 use Rattle.created_frame.specs.declared.Builder.{Builder}
 use Rattle.created_frame.specs.Frame.{acceptable, room, taken, handle, pushed, rest_pushed}
-use Rattle.created_frame.specs.Built.{made, push_adds, rest_adds, Call, a_push, a_rest, Kept, called, adds, run_adds}
+use Rattle.created_frame.specs.Built.{made, push_adds, rest_adds, Call, a_push, a_rest, Kept, called, run_adds}
 use Rattle.created_frame.proofs.Built.{made-length}
 use Rattle.received.specs.Matching.{handles_in}
-use Rattle.received.specs.Receives.{values_in, handle_said, run_handles, Alike}
+use Rattle.received.specs.Receives.{values_in, run_handles, Alike}
 
 -- numbers before a row of handles: as many handles as PDUs, and whole ones
 record Agree (ys row : List ℕ) (news ps : List Pdu) : Type 0 where

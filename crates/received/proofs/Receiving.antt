@@ -4,22 +4,20 @@ use mathlib.Core.Bool.{Bool, true, false}
 use Prim.Native.Nat.{ℕ, ◌+◌, ◌-◌, ◌%◌, ◌/◌, ◌≤◌, ◌<◌}
 use native.Mathlib.Omega.{arith}
 use mathlib.Core.List.{List, [], ◌∷◌, map}
-use lib.ListN.{length, take, drop}
+use lib.ListN.{length, take}
 use lib.Dec.{eqb}
 use lib.Seq.{take_at, drop_at}
 use borrow.Author.Tests.{eq-eqb, eqb-true, eqb-false}
 use Rattle.refusal.specs.Said.{pick}
-use Rattle.refusal.specs.declared.Refusal.{Refusal}
 use Rattle.refusal.specs.declared.Refusal.TheVariants.{BadArgument, WrongFrame}
 use Rattle.wire.specs.Bytes.{le16, Bytes}
 use Rattle.pdu.specs.declared.PduFields.{PduFields}
 use Rattle.pdu.specs.Pdu.{area_most, pdus_most, Pdu, layout}
-use Rattle.pdu.specs.Read.{length_of, headed, good, frame_of, places_at, seen_at, payload_of, shown_all, starts}
+use Rattle.pdu.specs.Read.{length_of, headed, good, frame_of, seen_at, payload_of, shown_all, starts}
 use Rattle.pdu.specs.Grammar.{WellFormed}
 use Rattle.pdu.proofs.Laws.{headed-fine, frame-none, frame-some, read_as}
 use Rattle.pdu.proofs.Reading.{well_seen, well-fits}
 use Rattle.pdu.proofs.Grammar.{headed-holds, accepted-well}
-use Rattle.created_frame.specs.declared.PduResponseHandle.{PduResponseHandle}
 use Rattle.created_frame.specs.Built.{Call, opened_with, run, run_adds, Addressed}
 use Rattle.created_frame.proofs.Built.{run-well}
 use Rattle.received.specs.declared.ReceivedPdu.{ReceivedPdu}
@@ -28,7 +26,7 @@ use Rattle.received.specs.declared.ReceivedAnswer.TheVariants.{Matched, No}
 use Rattle.received.specs.Matching.{handles_in, came_back, Receiving, refused, got, matched_at, matched, received_of}
 use Rattle.received.specs.Answers.{unused, padded, told}
 use Rattle.received.specs.Receives.{run_handles, frame_in, InTransit, Alike, payload_in, Lists, Receives}
-use Rattle.received.proofs.Back.{back_at, Stands, all_got, stood_stands, itself_stands, SeenAlike, seen_alike, ended, Found, found}
+use Rattle.received.proofs.Back.{back_at, Stands, all_got, stood_stands, itself_stands, SeenAlike, seen_alike, ended, found}
 use Rattle.received.proofs.Ours.{handles_agree}
 
 -- ---- from PDUs that stand in s to what is found of it

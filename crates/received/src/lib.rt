@@ -1,6 +1,7 @@
 // What came back (RULES, received): a returned frame is matched with the handles that pushing gave. It follows received_frame.rs of the Rust.
 // The place decides: the k-th handle is the k-th PDU's, whatever their indices are.
 #![tactic(auto)]
+
 ghost use Rattle.std.specs.Prelude.{◌≡◌, ◌+◌, ◌*◌, ◌≤◌, ◌<◌, [], drop};
 ghost use Rattle.wire.specs.Bytes.{word_past};
 ghost use Rattle.pdu.specs.Pdu.{area_most, frame_header_bytes, pdus_most};
@@ -57,6 +58,7 @@ enum Verdict {
 }
 
 // The payload and the working counter of each PDU of a frame that came back. The handles are those that pushing gave, in order, four numbers each.
+#[tactic(auto, unfolding(crate::specs::Matching::received_of, crate::specs::Matching::matched, pdu::specs::Read::headed))]
 pub fn receive(handles: &[u64], frame: &[u8]) -> Received
     ensures { result ≡ told (received_of handles.now frame.now) }
 {
@@ -72,6 +74,7 @@ pub fn receive(handles: &[u64], frame: &[u8]) -> Received
 }
 
 // The frame's header is there, of type 1, and its length lies within the bytes.
+#[tactic(auto, unfolding(pdu::specs::Read::headed))]
 fn is_headed(s: &[u8]) -> bool
     ensures { result ≡ headed s.now }
 {
@@ -117,6 +120,7 @@ fn match_all(handles: &[u64], s: &[u8], end: usize) -> Received
 }
 
 // The PDU at `at`, the k-th, against the k-th handle: that it has one and ends rightly comes first.
+#[tactic(auto, using(crate::proofs::Laws::handles_none, crate::proofs::Laws::handles_some), unfolding(crate::specs::Matching::judged, crate::specs::Matching::compared, pdu::specs::Read::seen_at))]
 fn judge(handles: &[u64], s: &[u8], at: usize, end: usize, k: usize) -> Verdict
     requires { (at < word_past) × (k ≤ pdus_most) }
     ensures { result ≡ judged (handles_in (drop (handle_numbers * k) handles.now)) s.now at end k }
@@ -143,6 +147,7 @@ fn judge(handles: &[u64], s: &[u8], at: usize, end: usize, k: usize) -> Verdict
 }
 
 // A handle's size, index and command against the command, the index and the length of the PDU at this place.
+#[tactic(auto, unfolding(crate::specs::Matching::compared))]
 fn compare(size: u64, index: u64, command: u64, c: u8, i: u8, n: u16, place: u16) -> Verdict
     ensures { result ≡ compared (record { start = 0; size = size; index = index; command = command }) c i n place }
 {
@@ -159,6 +164,7 @@ fn compare(size: u64, index: u64, command: u64, c: u8, i: u8, n: u16, place: u16
 }
 
 // What came back of the PDU whose header starts at `at`.
+#[tactic(auto, unfolding(pdu::specs::Read::seen_at))]
 fn came_back(s: &[u8], at: usize) -> ReceivedPdu
     requires { at < word_past }
     ensures { result ≡ came_back (seen_at s.now at) }
@@ -172,6 +178,7 @@ fn came_back(s: &[u8], at: usize) -> ReceivedPdu
 }
 
 // A list of no PDUs.
+#[tactic(auto, unfolding(crate::specs::Answers::padded, crate::specs::Answers::unused))]
 fn no_pdus() -> [ReceivedPdu; PDUS_MOST]
     ensures { result ≡ padded [] }
 {
@@ -184,6 +191,7 @@ fn no_pdus() -> [ReceivedPdu; PDUS_MOST]
 }
 
 // This refusal, and an empty list.
+#[tactic(auto, unfolding(crate::specs::Answers::told))]
 fn without(x: Refusal) -> Received
     ensures { result ≡ told (refused x) }
 {

@@ -1,5 +1,5 @@
 -- `received::match_all`: those found so far, before what the rest gives, are the whole; a fault, or the end, is what the walk then says.
-use Prim.Native.Nat.{◌+◌, ◌-◌, ◌*◌, ◌≤◌}
+use Rattle.std.proofs.Common.{◌+◌, ◌-◌, ◌*◌, ◌≤◌}
 use Rattle.received.proofs.Laws.{Going}
 use Rattle.received.proofs.match_all.Given as goal
 
