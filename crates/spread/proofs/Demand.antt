@@ -1,11 +1,11 @@
 -- The call in one statement, from its contract alone: the rule goes out in one of four ways, and each fixes the answer and what is true of the arguments.
 use mathlib.Core.Path.{◌≡◌, refl, sym, ap, ◌∙◌}
 use mathlib.Core.Logic.{◌↔◌}
-use mathlib.Core.Bool.{true, false, false≢true}
-use mathlib.Core.List.{List, [], ◌∷◌}
-use Prim.Native.Nat.{ℕ, ◌+◌, ◌/◌, ◌≤◌, ◌<◌}
+use mathlib.Core.Bool.{false≢true}
+use mathlib.Core.List.{List, []}
+use Prim.Native.Nat.{ℕ, ◌+◌, ◌<◌}
 use native.Mathlib.Omega.{arith}
-use borrow.Author.Tests.{leb-true, leb-false, le-leb}
+use borrow.Author.Tests.{leb-true, leb-false}
 use lib.ListN.{length, take}
 use lib.Seq.{take_at}
 use Rattle.refusal.specs.Said.{number_of, values_of}
@@ -14,7 +14,7 @@ use Rattle.refusal.specs.declared.Refusal.TheVariants.{Address, NoRoom, BadArgum
 use Rattle.pdu.specs.Pdu.{Pdu}
 use Rattle.cuts.specs.Cut.{Piece, last_area}
 use Rattle.created_frame.specs.declared.Builder.{Builder}
-use Rattle.created_frame.specs.Built.{Ours, Built}
+use Rattle.created_frame.specs.Built.{Built}
 use Rattle.created_frame.proofs.Built.{ours-built}
 use Rattle.spread.specs.declared.Spreading.{Spreading}
 use Rattle.spread.specs.declared.SpreadAnswer.TheVariants.{Last, No}
@@ -22,7 +22,7 @@ use Rattle.spread.specs.Row.{address_end, Run, stopped, padded, Outcome}
 use Rattle.spread.specs.Answers.{said_last, Promised}
 use Rattle.spread.specs.Theorem.{Spreads}
 use Rattle.spread.specs.Demand.{Bounds, Reaches, Cut, Demand3}
-use Rattle.spread.proofs.Laws.{law, bounds-lawful, out, run, bounds, reaches, fits, ways}
+use Rattle.spread.proofs.Laws.{law, bounds-lawful, out, run, ways}
 use Rattle.spread.proofs.Unique.{answer_unique}
 use Rattle.spread.proofs.Theorem.{ours, room_cut, cut-room, answered-built, unchanged}
 

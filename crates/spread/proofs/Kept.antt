@@ -19,7 +19,7 @@ use Rattle.created_frame.proofs.Whole.{length-after_rest}
 use Rattle.spread.proofs.Push.{zeroed-length, push_none}
 use Rattle.spread.proofs.Going.{area_in, row_more, row_stop}
 use Rattle.spread.specs.Demand.{Bounds}
-use Rattle.spread.proofs.Laws.{law, out, run, bounds, reaches, fits, ways}
+use Rattle.spread.proofs.Laws.{law, out, bounds, reaches, fits, ways}
 
 -- ---- the areas past the answer
 

@@ -1,6 +1,7 @@
 // A process image spread over a row of areas of one size: one logical PDU for each area that has room (RULES, spreading).
 // The Rust leaves this to its callers. The rule is specs/Row.antt, and the contract `Promised` says that the call follows it; what that comes to is one statement, specs/Demand.antt.
 #![tactic(auto)]
+
 ghost use Rattle.std.specs.Prelude.{◌≡◌, ◌+◌, ◌-◌, ◌*◌, ◌≤◌, [], length, take, drop};
 ghost use Rattle.wire.specs.Bytes.{overlay};
 ghost use Rattle.pdu.specs.Pdu.{area_most};
