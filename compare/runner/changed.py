@@ -48,7 +48,7 @@ def arguments(words):
                         help="a desk that was built before the request")
     parser.add_argument("--new", metavar="DESK",
                         help="one built with it (where --old is given, "
-                        "target/bin/desk)")
+                        "that of compare/program)")
     parser.add_argument("--without", metavar="REQUEST", action="append",
                         default=[], choices=amended.NAMES,
                         help="switched off on both sides, as for desks that "
@@ -90,7 +90,7 @@ class Change:
         self.class_ = CLASSES[self.name]
         self.old = Side("old", [*asked.without, self.name], asked.old)
         self.new = Side("new", asked.without, asked.new
-                        or (programs.DESK if asked.old else None))
+                        or (programs.built("desk") if asked.old else None))
         self.asked = 0
         self.inside = Counter()
         self.changed = Counter()

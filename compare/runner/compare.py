@@ -215,7 +215,7 @@ class Comparison:
             print(note)
         if self.tried:
             print(f"desk: {self.tried.asked} requests, held to the independent "
-                  f"program's answers in {self.tried.runs} runs of three builds")
+                  f"program's answers in {self.tried.runs} runs by `rt try`")
         for fault in self.faults:
             print("FAULT", fault)
         self.say_groups()

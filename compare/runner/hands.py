@@ -2,8 +2,9 @@
 example, images of the most bytes, each status, an alias over a wrong checksum,
 a folder that can't be written, links, no kit.
 
-It takes target/bin/morel as `rt check morel` left it, so that nothing is
-proved here. Where `run` is to prove, a stand-in for `rt` does as if.
+It takes `morel` as `rt` built it, and `.ci/run` calls it where it has passed,
+so that `run` has nothing to prove. Where it is to prove, a stand-in for `rt`
+does as if, and once `rt` itself proves a program that does nothing.
 """
 
 import os
@@ -18,8 +19,8 @@ from concurrent.futures import ThreadPoolExecutor
 
 from independent import morel
 
-from .morel import EXAMPLES, PROGRAM, ran as told_by, read
-from .programs import ROOT, Missing, environment, kit, kit_words
+from .morel import EXAMPLES, ran as told_by, read
+from .programs import ROOT, Missing, built, environment
 
 RUN = os.path.join(ROOT, "run")
 LOOM = os.path.join(EXAMPLES, "loom.sii")
@@ -30,21 +31,31 @@ NOBODY = 65_534
 # The milliseconds in which `run` has started the program.
 START_MOST = 50
 
-# A stand-in for `rt`: `rt check morel` says two crates, takes PACE seconds for
-# each and leaves the program. Two at once, or a file `broken`, and it fails.
+# A stand-in for `rt`: `rt run` in crates/morel says two crates, takes PACE
+# seconds for each and leaves the program. Two at once, or a file `broken`, and
+# it fails.
 STAND_IN = """\
 #!/bin/sh
-[ "$*" = "check morel" ] || exit 2
-[ ! -e broken ] || { echo "rt: wire NOT PROVED"; exit 1; }
-mkdir target/proving || { echo "rt: two at once"; exit 1; }
-echo "rt: refusal proved (1 s)"
+[ "$*" = "run -- sii ../../examples/loom.sii" ] || exit 2
+[ -e ../../broken ] && { echo "logic=not-proved"; exit 1; }
+mkdir ../../target/proving || { echo "rt: two at once"; exit 1; }
+echo "logic=proved functions=4"
 sleep "$PACE"
-echo "rt: wire proved (1 s)"
+echo "logic=proved functions=9"
 sleep "$PACE"
-mkdir -p target/bin
-cp program target/bin/morel
-echo proved >>target/proofs
-rmdir target/proving
+mkdir -p out
+cp ../../program out/morel
+echo proved >>../../target/proofs
+rmdir ../../target/proving
+"""
+
+KIT_ID = "rattle-kit-0 stand-in\n"
+
+# A program that `rt` itself proves in little time.
+LITTLE = """\
+#![tactic(auto)]
+
+fn main(_rt: HostRuntime) {}
 """
 
 
@@ -112,26 +123,33 @@ def same(got, words, folder):
 
 
 class Copy:
-    """What `run` needs, in a folder of its own; its `rt` proves nothing."""
+    """What `run` needs, in a folder of its own, which is its kit too: `rt`
+    proves nothing."""
 
     def __init__(self, folder):
         self.folder = folder
         self.run = os.path.join(folder, "run")
         shutil.copy(RUN, folder)
         shutil.copy(os.path.join(ROOT, "crates.txt"), folder)
-        shutil.copy(PROGRAM, os.path.join(folder, "program"))
+        shutil.copy(built("morel"), os.path.join(folder, "program"))
         shutil.copytree(EXAMPLES, os.path.join(folder, "examples"))
-        os.makedirs(os.path.join(folder, "crates", "morel"))
-        self.source = os.path.join(folder, "crates", "morel", "main.rt")
+        self.crate = os.path.join(folder, "crates", "morel")
+        os.makedirs(os.path.join(self.crate, "src"))
+        self.source = os.path.join(self.crate, "src", "main.rt")
         self.touch(self.source)
+        self.write(os.path.join(folder, "KIT-ID"), KIT_ID)
         self.tools = os.path.join(folder, "tools")
         os.mkdir(self.tools)
         rt = os.path.join(self.tools, "rt")
-        with open(rt, "w", encoding="ascii") as file:
-            file.write(STAND_IN)
+        self.write(rt, STAND_IN)
         os.chmod(rt, 0o755)
         self.path = self.tools + os.pathsep + os.environ["PATH"]
-        self.env = {"RATTLE_HOME": kit(), "PACE": "0.3"}
+        self.env = {"PACE": "0.3"}
+
+    def write(self, path, text):
+        os.makedirs(os.path.dirname(path), exist_ok=True)
+        with open(path, "w", encoding="ascii") as file:
+            file.write(text)
 
     def touch(self, path):
         with open(path, "ab"):
@@ -174,13 +192,14 @@ def default_words(got):
 
 
 def test_shells_at_once():
-    """Eight at once prove once, and eight more nothing."""
+    """Eight at once prove once, or not at all what `.ci/run` has passed, and
+    eight more nothing."""
     shutil.rmtree(os.path.join(ROOT, "target", "run"), ignore_errors=True)
     first = at_once(SHELLS, ())
     for got in first:
         default_words(got)
     proving = sum("run: proving and building" in got.told for got in first)
-    expect(proving == 1, f"{proving} of {SHELLS} shells proved")
+    expect(proving <= 1, f"{proving} of {SHELLS} shells proved")
     for got in at_once(SHELLS, ()):
         default_words(got)
         expect(got.told == "", f"a run that proves nothing said: {got.told}")
@@ -198,11 +217,41 @@ def test_shells_while_proving(copy):
 
 
 @in_copy
+def test_passed(copy):
+    """What `.ci/run` has passed is not proved again, until a source changes."""
+    copy.write(os.path.join(copy.folder, "target", "ci", "passed"), KIT_ID)
+    os.mkdir(os.path.join(copy.crate, "out"))
+    shutil.copy(built("morel"), os.path.join(copy.crate, "out", "morel"))
+    for _ in range(2):
+        got = copy.ran()
+        default_words(got)
+        expect(got.told == "" and copy.proofs() == 0, f"it said: {got.told}")
+    # The clock that notes a change ticks every few milliseconds.
+    time.sleep(0.1)
+    copy.touch(copy.source)
+    default_words(copy.ran())
+    expect(copy.proofs() == 1, f"proved {copy.proofs()} times")
+
+
+@in_copy
+def test_proved(copy):
+    """`rt` itself proves and builds what `run` then starts. The program tells
+    no status."""
+    copy.write(os.path.join(copy.folder, "crates.txt"), "morel:\n")
+    copy.write(copy.source, LITTLE)
+    for first in (True, False):
+        got = copy.ran(path=os.environ["PATH"])
+        expect(got.status == 1 and "run: morel ended early" in got.told
+               and first == ("run: proving and building" in got.told),
+               f"status {got.status}: {got.told}")
+
+
+@in_copy
 def test_without_flock(copy):
     """The same by a folder for a lock, one of them left by a shell that is
     gone."""
-    names = ("awk cat cp date env find grep mkdir mv readlink rm rmdir sed sh "
-             "sleep tail touch uname").split()
+    names = ("awk cat cp date find grep mkdir mv readlink rm rmdir sh sleep "
+             "tail touch").split()
     for name in names:
         os.symlink(shutil.which(name), os.path.join(copy.tools, name))
     held = os.path.join(copy.folder, "target", "run", "held")
@@ -254,7 +303,7 @@ def crates():
         for text in file:
             name, colon, those = text.split("#")[0].partition(":")
             if colon:
-                below[name.strip()] = those.split()
+                below[name.split()[0]] = those.split()
     while left:
         name = left.pop()
         if name in below and name not in seen:
@@ -269,7 +318,7 @@ def test_failed_proof(copy):
     broken = os.path.join(copy.folder, "broken")
     copy.touch(broken)
     got = copy.ran()
-    expect(got.status == 1 and "NOT PROVED" in got.told, f"it said {got.told}")
+    expect(got.status == 1 and "not-proved" in got.told, f"it said {got.told}")
     os.remove(broken)
     default_words(copy.ran())
 
@@ -388,7 +437,7 @@ def test_alias():
 def test_program_alone():
     """Without the descriptor it writes the same, and ends."""
     words = ["--status", "sii", "missing.sii"]
-    done = subprocess.run(kit_words() + [PROGRAM] + words, cwd=EXAMPLES,
+    done = subprocess.run([built("morel")] + words, cwd=EXAMPLES,
                           env=environment(), stdout=subprocess.PIPE,
                           stderr=subprocess.PIPE, close_fds=True, check=False)
     said, _ = expected(words, EXAMPLES)
@@ -411,7 +460,7 @@ def test_cuts():
 
         def one(length):
             words = ["sii", f"c{length}"]
-            said, told = told_by(kit_words(), words, folder)
+            said, told = told_by(words, folder)
             by_other = morel.run([word.encode() for word in words], folder)
             expect((said, int(told)) == by_other,
                    f"cut at {length}: not what the independent one says")
@@ -455,7 +504,7 @@ def categories(content):
 def asked(words, folder):
     """What is printed, and the status, which the independent one has too."""
     other = expected(words, folder)
-    said, told = told_by(kit_words(), words, folder)
+    said, told = told_by(words, folder)
     expect((said, int(told)) == other,
            f"{words}: not what the independent one says")
     return said.decode("ascii"), int(told)
@@ -476,8 +525,7 @@ def test_large():
                 file.write(image)
             return asked(command.split(), folder)
 
-        small = labelled(told_by(kit_words(), ["sii", LOOM], folder)[0]
-                         .decode("ascii"))
+        small = labelled(told_by(["sii", LOOM], folder)[0].decode("ascii"))
         for ending in others:
             image = content[:128] + b"".join(
                 other for other in others if other is not ending)
@@ -520,25 +568,22 @@ def test_start():
             after.children_user - before.children_user
             + after.children_system - before.children_system)
 
-    alone = taken(kit_words() + [PROGRAM, "sii", "empty"])
+    alone = taken([built("morel"), "sii", "empty"])
     before = taken([RUN, "sii", "empty"]) - alone
     expect(before < START_MOST, f"run takes {before:.0f} ms")
     return (f"run takes {before:.0f} ms before the program, which takes "
             f"{alone:.0f} ms itself")
 
 
-TESTS = (test_shells_at_once, test_shells_while_proving, test_without_flock,
-         test_progress, test_failed_proof, test_folder_not_writable,
-         test_links, test_no_kit, test_statuses, test_alias,
-         test_program_alone, test_cuts, test_large, test_start)
+TESTS = (test_shells_at_once, test_shells_while_proving, test_passed,
+         test_proved, test_without_flock, test_progress, test_failed_proof,
+         test_folder_not_writable, test_links, test_no_kit, test_statuses,
+         test_alias, test_program_alone, test_cuts, test_large, test_start)
 
 
 def main():
-    if not os.path.exists(PROGRAM):
-        print("there is no target/bin/morel; `rt check morel` makes it")
-        return 2
     try:
-        kit_words()
+        built("morel")
     except Missing as why:
         print(f"morel is not asked: {why}")
         return 2

@@ -9,11 +9,10 @@ import tempfile
 
 from independent import morel
 
-from .programs import ROOT, Missing, environment, kit_words
+from .programs import ROOT, Missing, built, environment
 
 CRATE = os.path.join(ROOT, "crates", "morel")
 EXAMPLES = os.path.join(ROOT, "examples")
-PROGRAM = os.path.join(ROOT, "target", "bin", "morel")
 
 # How many files one run of the program is given.
 BATCH = 40
@@ -105,23 +104,20 @@ def difference(ours, theirs):
     return "one of them ends before the other"
 
 
-def ran(start, words, folder):
+def ran(words, folder):
     """What the program writes, and the status that it tells."""
     with tempfile.NamedTemporaryFile() as status:
         # A shell opens the descriptor that the status goes to.
         done = subprocess.run(
-            ["sh", "-c", 'exec "$@" 3>"$0"', status.name] + start
-            + [PROGRAM, "--status"] + words, cwd=folder,
+            ["sh", "-c", 'exec "$@" 3>"$0"', status.name, built("morel"),
+             "--status"] + words, cwd=folder,
             stdout=subprocess.PIPE, env=environment(), check=True)
         return done.stdout, status.read().decode("ascii")
 
 
 def by_chance(count, seed):
-    if not os.path.exists(PROGRAM):
-        print("there is no target/bin/morel; `rt check morel` makes it")
-        return 1
     try:
-        start = kit_words()
+        built("morel")
     except Missing as why:
         print(f"morel is not asked: {why}")
         return 1
@@ -136,7 +132,7 @@ def by_chance(count, seed):
                 tempfile.TemporaryDirectory() as theirs:
             words = batch(chance, originals, ours)
             shutil.copytree(ours, theirs, dirs_exist_ok=True)
-            got, told = ran(start, words, ours)
+            got, told = ran(words, ours)
             said, status = morel.run([word.encode() for word in words], theirs)
             if (got, told) != (said, f"{status}\n"):
                 print(f"after {asked} files, status {told!r}, not {status}")

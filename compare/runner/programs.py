@@ -1,5 +1,6 @@
 """The three programs: where they are, and asking them."""
 
+import functools
 import os
 import platform
 import shutil
@@ -9,7 +10,6 @@ import tempfile
 
 HERE = os.path.dirname(os.path.dirname(os.path.abspath(__file__)))
 ROOT = os.path.dirname(HERE)
-DESK = os.path.join(ROOT, "target", "bin", "desk")
 NAMES = ("desk", "oracle", "independent")
 
 # What a program is taken to say where it ended instead, and what is noted of
@@ -76,11 +76,8 @@ class Program:
 
 
 def environment():
-    """Ours, less what would turn the emulator, as `rt` does it."""
-    kept = {name: value for name, value in os.environ.items()
-            if not name.startswith("QEMU_")}
-    kept["PYTHONPYCACHEPREFIX"] = os.path.join(ROOT, "target", "pycache")
-    return kept
+    cache = os.path.join(ROOT, "target", "pycache")
+    return {**os.environ, "PYTHONPYCACHEPREFIX": cache}
 
 
 def found(names):
@@ -122,37 +119,33 @@ def _oracle():
     return [built.stdout.strip()]
 
 
-def _desk():
-    if not os.path.exists(DESK):
-        raise Missing("there is no target/bin/desk; `rt check desk` makes it")
-    return kit_words() + [DESK]
+@functools.lru_cache(maxsize=None)
+def built(name):
+    """Where a program of ours is, as `rt` proved and built it."""
+    found = subprocess.run([os.path.join(HERE, "program"), name],
+                           stdout=subprocess.PIPE, stderr=subprocess.PIPE,
+                           text=True, check=False)
+    if found.returncode != 0:
+        raise Missing(found.stderr.strip())
+    return startable(found.stdout.strip())
 
 
 def desk_at(path):
     """A desk that was built before, and kept there."""
     if not os.path.exists(path):
         raise Missing(f"there is no {path}")
-    return Program("desk", kit_words() + [os.path.abspath(path)])
+    return Program("desk", [startable(os.path.abspath(path))])
 
 
-def kit_words():
-    """As `rt` runs a program: the kit's loader and C library, and on another
-    processor than x86-64 the kit's emulator."""
-    tools = os.path.join(kit(), "on", platform.machine(), "toolchain")
-    loader = os.path.join(tools, "lib", "ld-linux-x86-64.so.2")
-    emulator = os.path.join(tools, "bin", "qemu-x86_64")
-    if not os.path.exists(loader):
-        if platform.machine() == "x86_64":
-            return []
-        raise Missing("the Rattle kit, which has the emulator, isn't there")
-    words = [loader, "--library-path", os.path.join(tools, "lib")]
-    return ([emulator] if os.access(emulator, os.X_OK) else []) + words
+def startable(path):
+    """`rt` builds for this processor alone."""
+    if platform.machine() not in ("x86_64", "AMD64"):
+        raise Missing(f"{path} is a program for x86-64")
+    return path
 
 
-def kit():
-    rt = shutil.which("rt")
-    beside = os.path.dirname(os.path.dirname(os.path.realpath(rt))) if rt else ""
-    return os.environ.get("RATTLE_HOME", beside)
+def _desk():
+    return [built("desk")]
 
 
 COMMANDS = {"desk": _desk, "oracle": _oracle, "independent": _independent}

@@ -1,31 +1,23 @@
-"""The desk before its proof: `rt try` builds it in three ways, runs each, and
-says whether it wrote what is expected. It proves nothing; `rt ci` does."""
+"""The desk before its proof: `rt try` builds it with checks, runs it, and what
+it writes is held to what is expected. It proves nothing; `rt ci` does."""
 
 import os
-import platform
-import re
 import shutil
 import subprocess
 import tempfile
 
 from .programs import ROOT, environment
 
-# How `rt try` says of each way that the answers are the expected ones. Its
-# interpreter, the fourth way, has too few steps for as many lines as this.
-RIGHT = "ok: the native program "
-WAYS = 3
-WRONG = re.compile("the native program .*\n.* at byte ([0-9]+)")
-
-# It takes at most 1,048,576 bytes of what a program writes, and ends a run that
-# takes long. On another processor than x86-64 programs run under the kit's
-# emulator, so slowly that a run gets less to answer.
-NATIVE = platform.machine() in ("x86_64", "AMD64")
-MOST = 1_000_000 if NATIVE else 60_000
+# It gives no answer where a program writes more than 1,048,576 bytes. Its
+# interpreter, the other way in which it runs a program, has too few steps for
+# as many lines as this.
+MOST = 1_000_000
 
 
 class Tried:
     def __init__(self):
         self.folder = tempfile.TemporaryDirectory()
+        self.desk = os.path.join(self.folder.name, "crates", "desk")
         self.runs = 0
         self.asked = 0
         shutil.copy(os.path.join(ROOT, "crates.txt"), self.folder.name)
@@ -43,29 +35,21 @@ class Tried:
                 yield fault
 
     def fault(self, lines, answers):
-        expected = b"".join(answer.encode("latin-1") + b"\n"
-                            for answer in answers)
-        self.put("stdin", b"".join(line + b"\n" for line in lines))
-        self.put("stdout", expected)
-        # Its status also tells of the interpreter's end.
-        said = subprocess.run(["rt", "try", "desk"], cwd=self.folder.name,
-                              stdout=subprocess.PIPE, stderr=subprocess.STDOUT,
-                              env=environment(), check=False,
-                              text=True, errors="replace").stdout
+        done = subprocess.run(["rt", "try"], cwd=self.desk,
+                              input=b"".join(line + b"\n" for line in lines),
+                              stdout=subprocess.PIPE, stderr=subprocess.PIPE,
+                              env=environment(), check=False)
         self.runs += 1
         self.asked += len(lines)
-        if said.count("\n" + RIGHT) == WAYS:
-            return None
-        place = WRONG.search(said)
-        if not place:
-            return None, said
-        at = expected.count(b"\n", 0, int(place[1]))
-        return (lines[at] if at < len(lines) else None), said
-
-    def put(self, name, text):
-        path = os.path.join(self.folder.name, "crates", "desk", name)
-        with open(path, "wb") as file:
-            file.write(text)
+        told = done.stderr.decode("utf-8", "replace")
+        if done.returncode != 0:
+            return None, told
+        said = done.stdout.split(b"\n")
+        expected = [answer.encode("latin-1") for answer in answers] + [b""]
+        for request, a, b in zip(lines, said, expected):
+            if a != b:
+                return request, f"it answers {a.decode('latin-1')}\n{told}"
+        return None if said == expected else (None, told)
 
 
 def stretches(answers):
