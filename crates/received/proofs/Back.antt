@@ -6,7 +6,7 @@ use native.Mathlib.Omega.{arith}
 use mathlib.Core.List.{List, [], ◌∷◌, map}
 use lib.ListN.{length}
 use lib.Dec.{eqb}
-use borrow.Author.Tests.{eq-eqb, eqb-true, eqb-false, leb-true, leb-false}
+use borrow.Author.Tests.{eqb-true, eqb-false, leb-true, leb-false}
 use Rattle.refusal.specs.Said.{pick}
 use Rattle.refusal.specs.declared.Refusal.{Refusal}
 use Rattle.refusal.specs.declared.Refusal.TheVariants.{WrongFrame, WrongCommand, WrongIndex, WrongLength}
@@ -22,7 +22,7 @@ use Rattle.received.specs.declared.Verdict.{Verdict}
 use Rattle.received.specs.declared.Verdict.TheVariants.{Right, Wrong}
 use Rattle.received.specs.Matching.{came_back, compared, judged, Receiving, refused, got, unless, more, matched_at}
 use Rattle.received.specs.Receives.{Stood, Each, Alike}
-use Rattle.received.proofs.Laws.{walk_missing, walk_spare, walk_done}
+use Rattle.received.proofs.Laws.{compared_same, walk_missing, walk_spare, walk_done}
 
 -- what came back at these places
 abbrev pub back_at : List ℕ → List ℕ → List ReceivedPdu
@@ -52,11 +52,11 @@ module _ (s : List ℕ) (i end : ℕ) (p : Pdu) where
 
   stood-right : (h : PduResponseHandle) (hs : List PduResponseHandle) (k m : ℕ) → Stood (shown i p m) (seen_at s i) → rightly i end flags ≡ true
       → p.command ≡ h.command → p.index ≡ h.index → length p.payload + 12 ≡ h.size → judged (h ∷ hs) s i end k ≡ Right
-  unfolding judged compared
+  unfolding judged
   stood-right h hs k m t r a b c =
       let v = seen_at s i in
       let x : v.len + 12 ≡ h.size = ap (λ (z : ℕ). z + 12) t.length_same ∙ c in
-      rw (r, eq-eqb v.command h.command (t.command_same ∙ a), eq-eqb v.index h.index (t.index_same ∙ b), eq-eqb (v.len + 12) h.size x) refl
+      rw r (compared_same h v.command v.index v.len k (t.command_same ∙ a) (t.index_same ∙ b) x)
 
   stood-step : (h : PduResponseHandle) (hs : List PduResponseHandle) (k m : ℕ) → judged (h ∷ hs) s i end k ≡ Right → Stood (shown i p m) (seen_at s i)
       → (l : List ReceivedPdu) → matched_at hs s (i + (12 + length p.payload)) end (suc k) ≡ got l → matched_at (h ∷ hs) s i end k ≡ got (came_back (seen_at s i) ∷ l)

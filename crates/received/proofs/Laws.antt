@@ -64,6 +64,11 @@ module _ (row : List ℕ) (k : ℕ) where
 
 -- ---- a verdict
 
+-- command, index and length are the handle's
+pub compared_same : (h : PduResponseHandle) (command index len k : ℕ) → command ≡ h.command → index ≡ h.index → len + 12 ≡ h.size → compared h command index len k ≡ Right
+unfolding compared
+compared_same h command index len k a b c = rw (eq-eqb command h.command a, eq-eqb index h.index b, eq-eqb (len + 12) h.size c) refl
+
 -- it does not end rightly
 pub judged_end : (hs : List PduResponseHandle) (s : List ℕ) (i end k : ℕ) → rightly i end (le16 s (i + 6)) ≡ false → Wrong (WrongFrame k) ≡ judged hs s i end k
 unfolding judged
