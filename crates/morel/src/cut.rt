@@ -21,15 +21,15 @@ fn whole(image: &[u8]) -> usize {
 }
 
 // The line of an image that has fewer.
-pub(crate) fn print(image: &[u8]) {
+pub(crate) fn print(rt: &impl Print, image: &[u8]) {
     let most = whole(image);
     let have = image.len();
     if have < most {
-        say(b"image cut: ");
-        decimal((most - have) as u64);
-        say(b" of ");
-        decimal(most as u64);
-        say(b" bytes are missing and read as 0xff\n");
+        say(rt, b"image cut: ");
+        decimal(rt, (most - have) as u64);
+        say(rt, b" of ");
+        decimal(rt, most as u64);
+        say(rt, b" bytes are missing and read as 0xff\n");
     }
 }
 

@@ -5,12 +5,12 @@ use frame_reader::{FrameAnswer, FrameRead};
 use pdu::PduFields;
 use wire::lesser;
 
-pub(crate) fn print(frame: &[u8]) -> u8 {
+pub(crate) fn print(rt: &impl Print, frame: &[u8]) -> u8 {
     let r = frame_reader::read_frame(frame);
     let answer = r.answer;
     match answer {
-        FrameAnswer::Frame => pdus(frame, r),
-        FrameAnswer::No(x) => refused(WHOLE, b"pdus", no(x)),
+        FrameAnswer::Frame => pdus(rt, frame, r),
+        FrameAnswer::No(x) => refused(rt, WHOLE, b"pdus", no(x)),
     }
 }
 
@@ -27,13 +27,14 @@ fn pdu(p: PduFields) -> [u64; 8] {
     ]
 }
 
-fn pdus(frame: &[u8], r: FrameRead) -> u8 {
+fn pdus(rt: &impl Print, frame: &[u8], r: FrameRead) -> u8 {
     let items = r.pdus;
     let n = lesser(r.count, 170);
-    record(WHOLE, 0, b"dpdus", &[n as u64]);
+    record(rt, WHOLE, 0, b"dpdus", &[n as u64]);
     let mut i = 0;
     while i < n {
         record(
+            rt,
             WHOLE,
             i,
             b"vpdu # command=NOP APRD APWR APRW FPRD FPWR FPRW BRD BWR BRW LRD LWR LRW ARMW FRMW,\
@@ -46,18 +47,18 @@ fn pdus(frame: &[u8], r: FrameRead) -> u8 {
               dpdu # working counter",
             &pdu(items[i]),
         );
-        payload(frame, i, items[i]);
+        payload(rt, frame, i, items[i]);
         i += 1;
     }
     ANSWERED
 }
 
-fn payload(frame: &[u8], i: usize, p: PduFields) {
+fn payload(rt: &impl Print, frame: &[u8], i: usize, p: PduFields) {
     let len = p.len as usize;
-    label(i, b"pdu # payload");
+    label(rt, i, b"pdu # payload");
     if len == 0 {
-        say(b"-");
+        say(rt, b"-");
     }
-    bytes(front(back(frame, p.place), len));
-    end(WHOLE);
+    bytes(rt, front(back(frame, p.place), len));
+    end(rt, WHOLE);
 }

@@ -25,64 +25,68 @@ const BOOTSTRAP_END: usize = 48;
 
 const MAILBOX_END: usize = 57;
 
-pub(crate) fn print(image: &[u8]) -> u8 {
-    cut::print(image);
-    let fixed = worse(coding(image), setup_words(image));
-    let identity = worse(identity(image), mailboxes(image));
+pub(crate) fn print(rt: &impl Print, image: &[u8]) -> u8 {
+    cut::print(rt, image);
+    let fixed = worse(coding(rt, image), setup_words(rt, image));
+    let identity = worse(identity(rt, image), mailboxes(rt, image));
     let general_cut = category_cut(image, category::GENERAL);
-    let general = worse(general(image, general_cut), physical(image, general_cut));
-    let texts = texts::print(image, general_cut);
-    let lists = records::print(image);
+    let general = worse(
+        general(rt, image, general_cut),
+        physical(rt, image, general_cut),
+    );
+    let texts = texts::print(rt, image, general_cut);
+    let lists = records::print(rt, image);
     worse(worse(fixed, identity), worse(general, worse(texts, lists)))
 }
 
-fn coding(image: &[u8]) -> u8 {
-    let size = size(image);
-    let version = version(image);
-    let checksum = checksum(image);
+fn coding(rt: &impl Print, image: &[u8]) -> u8 {
+    let size = size(rt, image);
+    let version = version(rt, image);
+    let checksum = checksum(rt, image);
     worse(size, worse(version, checksum))
 }
 
-fn setup_words(image: &[u8]) -> u8 {
-    let alias = alias(image);
-    let pdi = pdi(image);
+fn setup_words(rt: &impl Print, image: &[u8]) -> u8 {
+    let alias = alias(rt, image);
+    let pdi = pdi(rt, image);
     worse(alias, pdi)
 }
 
-fn mailboxes(image: &[u8]) -> u8 {
-    let bootstrap = bootstrap(image);
-    let mailbox = mailbox(image);
+fn mailboxes(rt: &impl Print, image: &[u8]) -> u8 {
+    let bootstrap = bootstrap(rt, image);
+    let mailbox = mailbox(rt, image);
     worse(bootstrap, mailbox)
 }
 
-fn size(image: &[u8]) -> u8 {
+fn size(rt: &impl Print, image: &[u8]) -> u8 {
     let cut = ends_before(image, SIZE_END);
     match sii::size(image, Chunk::Eight) {
-        SizeAnswer::Bytes(n) => record(cut, 0, b"dsii bytes", &[n as u64]),
-        SizeAnswer::No(x) => refused(cut, b"sii bytes", no(x)),
+        SizeAnswer::Bytes(n) => record(rt, cut, 0, b"dsii bytes", &[n as u64]),
+        SizeAnswer::No(x) => refused(rt, cut, b"sii bytes", no(x)),
     }
 }
 
-fn version(image: &[u8]) -> u8 {
+fn version(rt: &impl Print, image: &[u8]) -> u8 {
     let cut = ends_before(image, FIXED_END);
     match setup::version(image, Chunk::Eight) {
-        VersionAnswer::Version(n) => record(cut, 0, b"dsii version", &[n as u64]),
-        VersionAnswer::No(x) => refused(cut, b"sii version", no(x)),
+        VersionAnswer::Version(n) => record(rt, cut, 0, b"dsii version", &[n as u64]),
+        VersionAnswer::No(x) => refused(rt, cut, b"sii version", no(x)),
     }
 }
 
-fn checksum(image: &[u8]) -> u8 {
+fn checksum(rt: &impl Print, image: &[u8]) -> u8 {
     let cut = ends_before(image, CHECKSUM_END);
     match setup::checksum(image, Chunk::Eight) {
-        ChecksumAnswer::Is(c) => checksums(cut, c),
-        ChecksumAnswer::No(x) => refused(cut, b"checksum", no(x)),
+        ChecksumAnswer::Is(c) => checksums(rt, cut, c),
+        ChecksumAnswer::No(x) => refused(rt, cut, b"checksum", no(x)),
     }
 }
 
 // A checksum that is wrong is nothing that was refused, and yet the image is not as it should be.
-fn checksums(cut: bool, c: Checksums) -> u8 {
+fn checksums(rt: &impl Print, cut: bool, c: Checksums) -> u8 {
     let right = c.stored == c.computed;
     let status = record(
+        rt,
         cut,
         0,
         b"nchecksum=wrong right,2checksum stored,2checksum computed",
@@ -99,44 +103,47 @@ pub(crate) fn checksum_right(image: &[u8]) -> bool {
     }
 }
 
-fn alias(image: &[u8]) -> u8 {
+fn alias(rt: &impl Print, image: &[u8]) -> u8 {
     let cut = ends_before(image, ALIAS_END);
     match sii::station_alias(image, Chunk::Eight) {
-        AliasAnswer::Alias(n) => record(cut, 0, b"dalias", &[n as u64]),
-        AliasAnswer::No(x) => refused(cut, b"alias", no(x)),
+        AliasAnswer::Alias(n) => record(rt, cut, 0, b"dalias", &[n as u64]),
+        AliasAnswer::No(x) => refused(rt, cut, b"alias", no(x)),
     }
 }
 
-fn pdi(image: &[u8]) -> u8 {
+fn pdi(rt: &impl Print, image: &[u8]) -> u8 {
     let cut = ends_before(image, PDI_END);
     match setup::pdi_control(image, Chunk::Eight) {
         PdiAnswer::Is(p) => record(
+            rt,
             cut,
             0,
             b"4pdi control,4pdi configuration,dsync impulse length,4pdi configuration 2",
             &pdi_row(p),
         ),
-        PdiAnswer::No(x) => refused(cut, b"pdi control", no(x)),
+        PdiAnswer::No(x) => refused(rt, cut, b"pdi control", no(x)),
     }
 }
 
-fn identity(image: &[u8]) -> u8 {
+fn identity(rt: &impl Print, image: &[u8]) -> u8 {
     let cut = ends_before(image, IDENTITY_END);
     match sii::identity(image, Chunk::Eight) {
         IdentityAnswer::Is(i) => record(
+            rt,
             cut,
             0,
             b"8vendor,8product,8revision,8serial",
             &identity_row(i),
         ),
-        IdentityAnswer::No(x) => refused(cut, b"identity", no(x)),
+        IdentityAnswer::No(x) => refused(rt, cut, b"identity", no(x)),
     }
 }
 
-fn bootstrap(image: &[u8]) -> u8 {
+fn bootstrap(rt: &impl Print, image: &[u8]) -> u8 {
     let cut = ends_before(image, BOOTSTRAP_END);
     match setup::bootstrap_mailbox(image, Chunk::Eight) {
         BootstrapAnswer::Is(m) => record(
+            rt,
             cut,
             0,
             b"4bootstrap receive offset,\
@@ -145,14 +152,15 @@ fn bootstrap(image: &[u8]) -> u8 {
               dbootstrap send size",
             &bootstrap_row(m),
         ),
-        BootstrapAnswer::No(x) => refused(cut, b"bootstrap", no(x)),
+        BootstrapAnswer::No(x) => refused(rt, cut, b"bootstrap", no(x)),
     }
 }
 
-fn mailbox(image: &[u8]) -> u8 {
+fn mailbox(rt: &impl Print, image: &[u8]) -> u8 {
     let cut = ends_before(image, MAILBOX_END);
     match sii::mailbox_config(image, Chunk::Eight) {
         MailboxAnswer::Is(m) => record(
+            rt,
             cut,
             0,
             b"4mailbox receive offset,\
@@ -162,13 +170,14 @@ fn mailbox(image: &[u8]) -> u8 {
               fmailbox protocols=AoE EoE CoE FoE SoE VoE",
             &mailbox_row(m),
         ),
-        MailboxAnswer::No(x) => refused(cut, b"mailbox", no(x)),
+        MailboxAnswer::No(x) => refused(rt, cut, b"mailbox", no(x)),
     }
 }
 
-fn general(image: &[u8], cut: bool) -> u8 {
+fn general(rt: &impl Print, image: &[u8], cut: bool) -> u8 {
     match sii::general(image, Chunk::Eight) {
         GeneralAnswer::Is(g) => record(
+            rt,
             cut,
             0,
             b"dgeneral group string,\
@@ -187,20 +196,21 @@ fn general(image: &[u8], cut: bool) -> u8 {
               4general physical address",
             &general_row(g),
         ),
-        GeneralAnswer::No(x) => refused(cut, b"general", no(x)),
+        GeneralAnswer::No(x) => refused(rt, cut, b"general", no(x)),
     }
 }
 
 // Ports and address of General by ETG2010's places; ethercrab reads them two bytes before.
-fn physical(image: &[u8], cut: bool) -> u8 {
-    let ports = physical_ports(image, cut);
-    let address = physical_memory_address(image, cut);
+fn physical(rt: &impl Print, image: &[u8], cut: bool) -> u8 {
+    let ports = physical_ports(rt, image, cut);
+    let address = physical_memory_address(rt, image, cut);
     worse(ports, address)
 }
 
-fn physical_ports(image: &[u8], cut: bool) -> u8 {
+fn physical_ports(rt: &impl Print, image: &[u8], cut: bool) -> u8 {
     match sii::physical_ports(image, Chunk::Eight) {
         PortsAnswer::Is(p) => record(
+            rt,
             cut,
             0,
             b"vphysical port 0=Unused Mii Reserved Ebus FastHotConnect,\
@@ -209,13 +219,13 @@ fn physical_ports(image: &[u8], cut: bool) -> u8 {
               vphysical port 3=Unused Mii Reserved Ebus FastHotConnect",
             &ports_row(p),
         ),
-        PortsAnswer::No(x) => refused(cut, b"physical ports", no(x)),
+        PortsAnswer::No(x) => refused(rt, cut, b"physical ports", no(x)),
     }
 }
 
-fn physical_memory_address(image: &[u8], cut: bool) -> u8 {
+fn physical_memory_address(rt: &impl Print, image: &[u8], cut: bool) -> u8 {
     match sii::physical_memory_address(image, Chunk::Eight) {
-        WordAnswer::Word(n) => record(cut, 0, b"4physical memory address", &[n as u64]),
-        WordAnswer::No(x) => refused(cut, b"physical memory address", no(x)),
+        WordAnswer::Word(n) => record(rt, cut, 0, b"4physical memory address", &[n as u64]),
+        WordAnswer::No(x) => refused(rt, cut, b"physical memory address", no(x)),
     }
 }

@@ -1,6 +1,7 @@
 // The fitter's tool: prints what an EEPROM image or a frame holds, sets an alias, shows how an image is cut over frames.
 // docs/MOREL.md has its lines. Every command gets an answer, whatever the files' bytes are.
 #![tactic(auto)]
+
 mod alias;
 mod cut;
 mod file;
@@ -14,12 +15,14 @@ mod texts;
 mod words;
 
 use crate::status::{ANSWERED, UNUSABLE, commands_from, tell, worse};
-use crate::text::{error, front_mut, say};
-use crate::words::{is_word, number};
-use check::same;
+use crate::text::{error, front, front_mut, say};
+use crate::words::{argument, count, is_word, number, same};
 use eeprom::IMAGE_MOST;
 use pdu::{AREA_MOST, FRAME_HEADER_BYTES};
+use std::alloc::AllocGlobal;
+use std::fs::File;
 use std::num::{wrapping_add_usize, wrapping_sub_usize};
+use std::rt::{Env, Files};
 
 // The commands, by number.
 const NONE: u8 = 0;
@@ -34,34 +37,42 @@ const FORCED_ALIAS: u8 = 4;
 
 const SPREAD: u8 = 5;
 
+// The most bytes of a file's name.
+const PATH_MOST: usize = 4096;
+
 // The commands between the words `then`, in their order, an empty line between two. The worst that happened to one is the status.
-fn main() {
-    let count = os::arg_count();
-    let from = commands_from();
+fn main(rt: HostRuntime) {
+    let count = count(&rt);
+    let from = commands_from(&rt);
     let mut status = ANSWERED;
     let mut start = from;
     let mut i = from;
     while i < count {
-        if is_word(i, b"then") {
-            status = worse(status, run(start, i));
-            say(b"\n");
+        if is_word(&rt, i, b"then") {
+            status = worse(status, run(&rt, start, i));
+            say(&rt, b"\n");
             start = wrapping_add_usize(i, 1);
         }
         i += 1;
     }
-    tell(worse(status, run(start, count)), from);
+    tell(&rt, worse(status, run(&rt, start, count)), from);
 }
 
 // The command whose words are the arguments from start to end.
-fn run(start: usize, end: usize) -> u8 {
-    let mut name = [0u8; 8];
-    let n = os::arg(start, &mut name);
-    let command = chosen(&name[..n], start, wrapping_sub_usize(end, start));
-    on_file(command, &name[..n], wrapping_add_usize(start, 1))
+fn run<R: Files<File = File> + Env + Print + Eprint + AllocGlobal>(
+    rt: &R,
+    start: usize,
+    end: usize,
+) -> u8 {
+    let mut room = [0u8; 8];
+    let n = argument(rt, start, &mut room);
+    let name = front(&room, n);
+    let command = chosen(rt, name, start, wrapping_sub_usize(end, start));
+    on_file(rt, command, name, wrapping_add_usize(start, 1))
 }
 
 // The command of this name, if it has so many words.
-fn chosen(name: &[u8], start: usize, words: usize) -> u8 {
+fn chosen(rt: &impl Env, name: &[u8], start: usize, words: usize) -> u8 {
     if words == 2 {
         if same(name, b"sii") {
             return SII;
@@ -78,23 +89,24 @@ fn chosen(name: &[u8], start: usize, words: usize) -> u8 {
             return SPREAD;
         }
         if same(name, b"alias") {
-            return forced(start);
+            return forced(rt, start);
         }
     }
     NONE
 }
 
 // The last word of an alias that is written over a wrong checksum.
-fn forced(start: usize) -> u8 {
-    if is_word(wrapping_add_usize(start, 3), b"force") {
+fn forced(rt: &impl Env, start: usize) -> u8 {
+    if is_word(rt, wrapping_add_usize(start, 3), b"force") {
         FORCED_ALIAS
     } else {
         NONE
     }
 }
 
-fn usage() -> u8 {
+fn usage(rt: &impl Print) -> u8 {
     error(
+        rt,
         b"no such command, or not its words
 usage: morel COMMAND [then COMMAND ..]
   sii FILE                 print what an EEPROM image holds
@@ -129,28 +141,40 @@ fn longest() -> [u8; IMAGE_MOST] {
 }
 
 // Reads the command's file, and does what it is to do.
-fn on_file(command: u8, name: &[u8], at: usize) -> u8 {
+fn on_file<R: Files<File = File> + Env + Print + Eprint + AllocGlobal>(
+    rt: &R,
+    command: u8,
+    name: &[u8],
+    at: usize,
+) -> u8 {
     if command == NONE {
-        return usage();
+        return usage(rt);
     }
-    let mut path = io::buffer();
+    let mut word = [0u8; PATH_MOST];
     let mut room = longest();
-    let k = os::arg(file_at(command, at), &mut path);
-    let n = file::read(name, &path[..k], front_mut(&mut room, most(command)));
+    let k = argument(rt, file_at(command, at), &mut word);
+    let path = front(&word, k);
+    let n = file::read(rt, name, path, front_mut(&mut room, most(command)));
     if n <= IMAGE_MOST {
-        act(command, at, &path[..k], front_mut(&mut room, n))
+        act(rt, command, at, path, front_mut(&mut room, n))
     } else {
         UNUSABLE
     }
 }
 
-fn act(command: u8, at: usize, path: &[u8], bytes: &mut [u8]) -> u8 {
+fn act<R: Files<File = File> + Env + Print + Eprint + AllocGlobal>(
+    rt: &R,
+    command: u8,
+    at: usize,
+    path: &[u8],
+    bytes: &mut [u8],
+) -> u8 {
     let second = wrapping_add_usize(at, 1);
     match command {
-        SII => image::print(bytes),
-        FRAME => frame::print(bytes),
-        ALIAS => alias::set(path, bytes, number(second), false),
-        FORCED_ALIAS => alias::set(path, bytes, number(second), true),
-        _ => spreading::cut(bytes, number(at), number(second)),
+        SII => image::print(rt, bytes),
+        FRAME => frame::print(rt, bytes),
+        ALIAS => alias::set(rt, path, bytes, number(rt, second), false),
+        FORCED_ALIAS => alias::set(rt, path, bytes, number(rt, second), true),
+        _ => spreading::cut(rt, bytes, number(rt, at), number(rt, second)),
     }
 }

@@ -7,28 +7,32 @@ use eeprom::Chunk;
 use lists::{FmmuList, ListAnswer, PdoList, SyncManagers, pdo_row, sync_manager_row};
 use wire::lesser;
 
-pub(crate) fn print(image: &[u8]) -> u8 {
+pub(crate) fn print(rt: &impl Print, image: &[u8]) -> u8 {
     let managers = sync_managers(
+        rt,
         category_cut(image, category::SYNC_MANAGER),
         lists::sync_managers(image, Chunk::Eight),
     );
-    let fmmus = print_fmmus(image);
-    let pdos = print_pdos(image);
+    let fmmus = print_fmmus(rt, image);
+    let pdos = print_pdos(rt, image);
     let clocks = clocks(
+        rt,
         category_cut(image, category::DISTRIBUTED_CLOCK),
         clock::distributed_clocks(image, Chunk::Eight),
     );
     worse(worse(managers, fmmus), worse(pdos, clocks))
 }
 
-fn print_fmmus(image: &[u8]) -> u8 {
+fn print_fmmus(rt: &impl Print, image: &[u8]) -> u8 {
     let usages = fmmus(
+        rt,
         category_cut(image, category::FMMU),
         b"fmmus",
         b"vfmmu # usage=Unused Outputs Inputs SyncManagerStatus",
         lists::fmmus(image, Chunk::Eight),
     );
     let mappings = fmmus(
+        rt,
         category_cut(image, category::FMMU_EXTENDED),
         b"extended fmmus",
         b"dfmmu # sync manager",
@@ -37,14 +41,16 @@ fn print_fmmus(image: &[u8]) -> u8 {
     worse(usages, mappings)
 }
 
-fn print_pdos(image: &[u8]) -> u8 {
+fn print_pdos(rt: &impl Print, image: &[u8]) -> u8 {
     let sent = pdos(
+        rt,
         category_cut(image, category::TX_PDO),
         b"tx pdos",
         b"4tx pdo # index,dtx pdo # entries,dtx pdo # sync manager,dtx pdo # bits",
         lists::maindevice_read_pdos(image, Chunk::Eight),
     );
     let received = pdos(
+        rt,
         category_cut(image, category::RX_PDO),
         b"rx pdos",
         b"4rx pdo # index,drx pdo # entries,drx pdo # sync manager,drx pdo # bits",
@@ -54,26 +60,27 @@ fn print_pdos(image: &[u8]) -> u8 {
 }
 
 // A list's first line.
-fn listed(cut: bool, name: &[u8], answer: ListAnswer, n: usize) -> u8 {
+fn listed(rt: &impl Print, cut: bool, name: &[u8], answer: ListAnswer, n: usize) -> u8 {
     match answer {
         ListAnswer::Listed => {
-            label(0, name);
-            decimal(n as u64);
-            end(cut);
+            label(rt, 0, name);
+            decimal(rt, n as u64);
+            end(rt, cut);
             of_cut(cut)
         }
-        ListAnswer::No(x) => refused(cut, name, no(x)),
+        ListAnswer::No(x) => refused(rt, cut, name, no(x)),
     }
 }
 
-fn sync_managers(cut: bool, l: SyncManagers) -> u8 {
+fn sync_managers(rt: &impl Print, cut: bool, l: SyncManagers) -> u8 {
     let answer = l.answer;
     let items = l.items;
     let n = lesser(l.count, 8);
-    let status = listed(cut, b"sync managers", answer, n);
+    let status = listed(rt, cut, b"sync managers", answer, n);
     let mut i = 0;
     while i < n {
         record(
+            rt,
             cut,
             i,
             b"4sync manager # start,\
@@ -93,40 +100,41 @@ fn sync_managers(cut: bool, l: SyncManagers) -> u8 {
 }
 
 // A list of FMMUs has one number for each.
-fn fmmus(cut: bool, name: &[u8], table: &[u8], l: FmmuList) -> u8 {
+fn fmmus(rt: &impl Print, cut: bool, name: &[u8], table: &[u8], l: FmmuList) -> u8 {
     let answer = l.answer;
     let items = l.items;
     let n = lesser(l.count, 16);
-    let status = listed(cut, name, answer, n);
+    let status = listed(rt, cut, name, answer, n);
     let mut i = 0;
     while i < n {
-        record(cut, i, table, &[wide8(items[i])]);
+        record(rt, cut, i, table, &[wide8(items[i])]);
         i += 1;
     }
     status
 }
 
-fn pdos(cut: bool, name: &[u8], table: &[u8], l: PdoList) -> u8 {
+fn pdos(rt: &impl Print, cut: bool, name: &[u8], table: &[u8], l: PdoList) -> u8 {
     let answer = l.answer;
     let items = l.items;
     let n = lesser(l.count, 64);
-    let status = listed(cut, name, answer, n);
+    let status = listed(rt, cut, name, answer, n);
     let mut i = 0;
     while i < n {
-        record(cut, i, table, &pdo_row(items[i]));
+        record(rt, cut, i, table, &pdo_row(items[i]));
         i += 1;
     }
     status
 }
 
-fn clocks(cut: bool, l: DistributedClocks) -> u8 {
+fn clocks(rt: &impl Print, cut: bool, l: DistributedClocks) -> u8 {
     let answer = l.answer;
     let items = l.items;
     let n = lesser(l.count, 8);
-    let status = listed(cut, b"clock modes", answer, n);
+    let status = listed(rt, cut, b"clock modes", answer, n);
     let mut i = 0;
     while i < n {
         record(
+            rt,
             cut,
             i,
             b"dclock mode # cycle time,\

@@ -19,52 +19,53 @@ fn row(size: u64, areas: u64) -> usize {
     }
 }
 
-pub(crate) fn cut(image: &[u8], size: u64, areas: u64) -> u8 {
+pub(crate) fn cut(rt: &impl Print, image: &[u8], size: u64, areas: u64) -> u8 {
     if size == UNREADABLE {
-        return error(b"SIZE is no number of 32 bits");
+        return error(rt, b"SIZE is no number of 32 bits");
     }
     if areas == UNREADABLE {
-        return error(b"AREAS is no number of 32 bits");
+        return error(rt, b"AREAS is no number of 32 bits");
     }
     record(
+        rt,
         WHOLE,
         0,
         b"darea bytes,dareas,vpdu command=- - - - - - - - - - - LWR,8pdu address",
         &[size, areas, 11, 0],
     );
-    spread_over(image, size as usize, row(size, areas))
+    spread_over(rt, image, size as usize, row(size, areas))
 }
 
-fn spread_over(image: &[u8], size: usize, total: usize) -> u8 {
-    let mut areas = io::large_buffer();
+fn spread_over(rt: &impl Print, image: &[u8], size: usize, total: usize) -> u8 {
+    let mut areas = [0u8; 65536];
     let none = Builder {
         used: 0,
         count: 0,
         last: 0,
     };
     let r = spread::spread(front_mut(&mut areas, total), size, none, 0, 11, 0, image);
-    said(&areas, size, r)
+    said(rt, &areas, size, r)
 }
 
-fn said(areas: &[u8], size: usize, r: Spreading) -> u8 {
+fn said(rt: &impl Print, areas: &[u8], size: usize, r: Spreading) -> u8 {
     let answer = r.answer;
     match answer {
-        SpreadAnswer::Last(n) => pieces(areas, size, r, n),
-        SpreadAnswer::No(x) => refused(WHOLE, b"last area", no(x)),
+        SpreadAnswer::Last(n) => pieces(rt, areas, size, r, n),
+        SpreadAnswer::No(x) => refused(rt, WHOLE, b"last area", no(x)),
     }
 }
 
-fn pieces(areas: &[u8], size: usize, r: Spreading, last: usize) -> u8 {
+fn pieces(rt: &impl Print, areas: &[u8], size: usize, r: Spreading, last: usize) -> u8 {
     let states = r.states;
     let n = lesser(last, 32);
-    record(WHOLE, 0, b"dlast area", &[n as u64]);
+    record(rt, WHOLE, 0, b"dlast area", &[n as u64]);
     let mut at = 0;
     let mut sent = 0;
     let mut i = 0;
     while i < n {
         let b = states[i];
         let used = b.used;
-        piece(i, sent, used, back(areas, at));
+        piece(rt, i, sent, used, back(areas, at));
         at = wrapping_add_usize(at, size);
         sent = wrapping_add_usize(sent, wrapping_sub_usize(used, 12));
         i += 1;
@@ -73,19 +74,20 @@ fn pieces(areas: &[u8], size: usize, r: Spreading, last: usize) -> u8 {
 }
 
 // An area's piece of the image, and its frame: header and PDUs. Areas count from 1, the indices of their PDUs from 0.
-fn piece(i: usize, sent: usize, used: usize, area: &[u8]) {
+fn piece(rt: &impl Print, i: usize, sent: usize, used: usize, area: &[u8]) {
     let number = wrapping_add_usize(i, 1);
     let carried = wrapping_sub_usize(used, 12);
     record(
+        rt,
         WHOLE,
         number,
         b"darea # pdu index,darea # image from,darea # image bytes",
         &[i as u64, sent as u64, carried as u64],
     );
-    label(number, b"area # frame");
+    label(rt, number, b"area # frame");
     let head = pdu::frame_header(used);
     let header = head.bytes;
-    bytes(&header);
-    bytes(front(area, used));
-    end(WHOLE);
+    bytes(rt, &header);
+    bytes(rt, front(area, used));
+    end(rt, WHOLE);
 }

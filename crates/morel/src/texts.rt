@@ -22,36 +22,36 @@ fn asked(image: &[u8], which: u8, i: u8, room: &mut [u8]) -> StringAnswer {
 }
 
 // A string's line, with i in the place of a `#` of its label.
-fn string(image: &[u8], cut: bool, which: u8, i: u8, name: &[u8]) -> u8 {
+fn string(rt: &impl Print, image: &[u8], cut: bool, which: u8, i: u8, name: &[u8]) -> u8 {
     let mut room = [0u8; 255];
     let r = asked(image, which, i, &mut room);
-    label(i as usize, name);
+    label(rt, i as usize, name);
     match r {
-        StringAnswer::Length(n) => found(cut, front(&room, n as usize)),
-        StringAnswer::Absent => absent(cut),
-        StringAnswer::No(x) => refusal(cut, no(x)),
+        StringAnswer::Length(n) => found(rt, cut, front(&room, n as usize)),
+        StringAnswer::Absent => absent(rt, cut),
+        StringAnswer::No(x) => refusal(rt, cut, no(x)),
     }
 }
 
-fn found(cut: bool, text: &[u8]) -> u8 {
-    plain(text);
-    end(cut);
+fn found(rt: &impl Print, cut: bool, text: &[u8]) -> u8 {
+    plain(rt, text);
+    end(rt, cut);
     of_cut(cut)
 }
 
-fn absent(cut: bool) -> u8 {
-    say(b"absent");
-    end(cut);
+fn absent(rt: &impl Print, cut: bool) -> u8 {
+    say(rt, b"absent");
+    end(rt, cut);
     of_cut(cut)
 }
 
 // The strings up to the number that the category's first byte gives.
-fn all(image: &[u8], cut: bool, count: u8) -> u8 {
-    let mut status = record(cut, 0, b"dstrings", &[count as u64]);
+fn all(rt: &impl Print, image: &[u8], cut: bool, count: u8) -> u8 {
+    let mut status = record(rt, cut, 0, b"dstrings", &[count as u64]);
     let mut i: u8 = 0;
     while i < count {
         i += 1;
-        status = worse(status, string(image, cut, STRING, i, b"string #"));
+        status = worse(status, string(rt, image, cut, STRING, i, b"string #"));
     }
     status
 }
@@ -65,14 +65,14 @@ fn count(image: &[u8], g: Range) -> u8 {
     }
 }
 
-fn category(image: &[u8], cut: bool) -> u8 {
+fn category(rt: &impl Print, image: &[u8], cut: bool) -> u8 {
     match category::category(image, Chunk::Eight, category::STRINGS) {
-        Found::At(g) => all(image, cut, count(image, g)),
+        Found::At(g) => all(rt, image, cut, count(image, g)),
         Found::Absent => {
-            label(0, b"strings");
-            absent(cut)
+            label(rt, 0, b"strings");
+            absent(rt, cut)
         }
-        Found::No(x) => refused(cut, b"strings", no(x)),
+        Found::No(x) => refused(rt, cut, b"strings", no(x)),
     }
 }
 
@@ -81,11 +81,11 @@ fn named_cut(general_cut: bool, cut: bool) -> bool {
     if general_cut { true } else { cut }
 }
 
-pub(crate) fn print(image: &[u8], general_cut: bool) -> u8 {
+pub(crate) fn print(rt: &impl Print, image: &[u8], general_cut: bool) -> u8 {
     let cut = category_cut(image, category::STRINGS);
     let named = named_cut(general_cut, cut);
-    let name = string(image, named, NAME, 0, b"device name");
-    let description = string(image, named, DESCRIPTION, 0, b"device description");
-    let strings = category(image, cut);
+    let name = string(rt, image, named, NAME, 0, b"device name");
+    let description = string(rt, image, named, DESCRIPTION, 0, b"device description");
+    let strings = category(rt, image, cut);
     worse(name, worse(description, strings))
 }

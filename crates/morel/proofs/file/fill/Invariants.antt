@@ -1,0 +1,5 @@
+use Rattle.std.proofs.Common.{◌-◌, length}
+use Rattle.morel.proofs.file.fill.Given as goal
+
+abbrev pub decreases-loop-n : goal.decreases-loop-n
+decreases-loop-n o l = length l.room - l.n
