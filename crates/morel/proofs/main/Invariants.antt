@@ -1,3 +1,4 @@
+-- `morel::main` is safe and ends: the arguments that are left fall.
 use Rattle.std.proofs.Common.{◌-◌}
 use Rattle.morel.proofs.main.Given as goal
 

@@ -1,3 +1,4 @@
+-- `morel::file::fill` is safe and ends: the room that is left falls.
 use Rattle.std.proofs.Common.{◌-◌, length}
 use Rattle.morel.proofs.file.fill.Given as goal
 

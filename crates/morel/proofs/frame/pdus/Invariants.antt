@@ -1,3 +1,4 @@
+-- `morel::frame::pdus` is safe and ends: the PDUs that are left fall.
 use Rattle.std.proofs.Common.{◌-◌}
 use Rattle.morel.proofs.frame.pdus.Given as goal
 

@@ -1,3 +1,4 @@
+-- `morel::records::clocks` is safe and ends: the modes that are left fall.
 use Rattle.std.proofs.Common.{◌-◌}
 use Rattle.morel.proofs.records.clocks.Given as goal
 

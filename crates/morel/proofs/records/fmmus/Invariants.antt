@@ -1,3 +1,4 @@
+-- `morel::records::fmmus` is safe and ends: the FMMUs that are left fall.
 use Rattle.std.proofs.Common.{◌-◌}
 use Rattle.morel.proofs.records.fmmus.Given as goal
 

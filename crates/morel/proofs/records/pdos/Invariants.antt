@@ -1,3 +1,4 @@
+-- `morel::records::pdos` is safe and ends: the PDOs that are left fall.
 use Rattle.std.proofs.Common.{◌-◌}
 use Rattle.morel.proofs.records.pdos.Given as goal
 

@@ -1,3 +1,4 @@
+-- `morel::records::sync_managers` is safe and ends: the sync managers that are left fall.
 use Rattle.std.proofs.Common.{◌-◌}
 use Rattle.morel.proofs.records.sync_managers.Given as goal
 

@@ -1,3 +1,4 @@
+-- `morel::spreading::pieces` is safe and ends: the areas that are left fall.
 use Rattle.std.proofs.Common.{◌-◌}
 use Rattle.morel.proofs.spreading.pieces.Given as goal
 

@@ -1,3 +1,4 @@
+-- `morel::text::bytes` is safe and ends: the bytes that are left fall.
 use Rattle.std.proofs.Common.{◌-◌, length}
 use Rattle.morel.proofs.text.bytes.Given as goal
 

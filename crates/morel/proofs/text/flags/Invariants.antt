@@ -1,3 +1,4 @@
+-- `morel::text::flags` is safe and ends: the bits that are left of eight fall.
 use Rattle.std.proofs.Common.{◌-◌}
 use Rattle.morel.proofs.text.flags.Given as goal
 

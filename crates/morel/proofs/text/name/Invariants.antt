@@ -1,3 +1,4 @@
+-- `morel::text::name` is safe and ends: the words that are left to pass fall.
 use Rattle.std.proofs.Common.{◌-◌}
 use Rattle.morel.proofs.text.name.Given as goal
 

@@ -1,3 +1,4 @@
+-- `morel::text::plain` is safe and ends: the bytes that are left fall.
 use Rattle.std.proofs.Common.{◌-◌, length}
 use Rattle.morel.proofs.text.plain.Given as goal
 

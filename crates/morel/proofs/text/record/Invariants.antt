@@ -1,3 +1,4 @@
+-- `morel::text::record` is safe and ends: the numbers that are left of the row fall.
 use Rattle.std.proofs.Common.{◌-◌, length}
 use Rattle.morel.proofs.text.record.Given as goal
 

@@ -1,3 +1,4 @@
+-- `morel::texts::all` is safe and ends: the strings that are left fall.
 use Rattle.std.proofs.Common.{◌-◌}
 use Rattle.morel.proofs.texts.all.Given as goal
 

@@ -1,3 +1,4 @@
+-- `morel::words::hex` is safe and ends: the digits that are left fall.
 use Rattle.std.proofs.Common.{◌-◌, length}
 use Rattle.morel.proofs.words.hex.Given as goal
 
