@@ -22,7 +22,7 @@ use Rattle.spread.specs.Row.{address_end, Run, stopped, padded, Outcome}
 use Rattle.spread.specs.Answers.{said_last, Promised}
 use Rattle.spread.specs.Theorem.{Spreads}
 use Rattle.spread.specs.Demand.{Bounds, Reaches, Cut, Demand3}
-use Rattle.spread.proofs.Laws.{law, bounds-lawful, out, run, ways}
+use Rattle.spread.proofs.Laws.{law, bounds-lawful, out, ways}
 use Rattle.spread.proofs.Unique.{answer_unique}
 use Rattle.spread.proofs.Theorem.{ours, room_cut, cut-room, answered-built, unchanged}
 
@@ -54,7 +54,7 @@ module _ (row : List ℕ) (size : ℕ) (first : Builder) (index command address 
       (λ b a e. past (answer_unique _ (No Address) _ e refl) (law _ _ _ _ _ b) (leb-false _ _ a))
       (λ b a f e. lacks (answer_unique _ (No NoRoom) _ e refl) (law _ _ _ _ _ b) (leb-true _ _ a)
       (λ ps c. false≢true (sym f ∙ cut-room row size first index command address image ps c)))
-      (λ b a f e. lasts _ (answer_unique _ (Last (length (run row size first index command address image).states)) _ e refl) (law _ _ _ _ _ b) (leb-true _ _ a)
+      (λ b a f e. lasts _ (answer_unique _ (Last _) _ e refl) (law _ _ _ _ _ b) (leb-true _ _ a)
       (room_cut row size first index command address image f))
       met.0
 
