@@ -55,10 +55,7 @@ module _ (e : ℕ) (low : e < nowhere) where
   others-low = (omega arith, (omega arith, (omega arith, tt)))
 
   others-not : All (λ (k : ℕ). k ≢ e) (others_from e)
-  others-not = (apart 1 (omega arith) (omega arith), (apart 2 (omega arith) (omega arith), (apart 3 (omega arith) (omega arith), tt)))
-    where
-      apart : (n : ℕ) → 0 < n → n < nowhere → (e + n) % port_count ≢ e
-      apart n h i q = omega arith
+  others-not = (λ q. omega arith, (λ q. omega arith, (λ q. omega arith, tt)))
 
 -- what holds of each of them holds of every place but e
 others_all : (P : ℕ → Type 0) (e : ℕ) → e < nowhere → All P (others_from e) → (k : ℕ) → k < nowhere → k ≢ e → P k
