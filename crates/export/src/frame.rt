@@ -15,8 +15,7 @@ use refusal::Refusal;
 use wire::flag;
 
 // Zeroes the area; the row takes the state of an empty one: used, count, last.
-#[unsafe(no_mangle)]
-pub extern "C" fn morel_open(area: &mut [u8], out: &mut [u64]) -> u8
+pub fn morel_open(area: &mut [u8], out: &mut [u64]) -> u8
     ensures code { result ≡ code_of (opened (length area.old)) }
     ensures bytes { area.new ≡ after_open area.old }
     ensures lent { out.new ≡ row_over out.old (opened (length area.old)) }
@@ -40,8 +39,7 @@ fn of_opened(out: &mut [u64], r: Opened) -> u8
 
 // Pushes a PDU of these bytes, its payload as long as the larger of their count and `over`.
 // The row takes the state after it and the next index, and behind them the PDU's place, size, index and command.
-#[unsafe(no_mangle)]
-pub extern "C" fn morel_push_pdu(
+pub fn morel_push_pdu(
     area: &mut [u8],
     used: usize,
     count: usize,
@@ -105,8 +103,7 @@ fn pushed_row(b: Builder, next: u8, h: PduResponseHandle) -> [u64; 8]
 
 // Pushes a PDU of the first of these bytes, as many as have room. The row takes the state after it and the next index,
 // and behind them how many went in and the PDU's place, size, index and command.
-#[unsafe(no_mangle)]
-pub extern "C" fn morel_push_pdu_slice_rest(
+pub fn morel_push_pdu_slice_rest(
     area: &mut [u8],
     used: usize,
     count: usize,
@@ -175,8 +172,7 @@ fn taken_row(b: Builder, next: u8, taken: usize, h: PduResponseHandle) -> [u64; 
 }
 
 // Whether a PDU of len payload bytes has room: 1 or 0.
-#[unsafe(no_mangle)]
-pub extern "C" fn morel_can_push_pdu_payload(
+pub fn morel_can_push_pdu_payload(
     size: usize,
     used: usize,
     count: usize,
@@ -198,8 +194,8 @@ pub extern "C" fn morel_can_push_pdu_payload(
 }
 
 // The two bytes of the header of a frame whose PDUs take this many bytes, at the front of `bytes`; fewer than two are refused. A refusal leaves them.
-#[unsafe(no_mangle)]
-pub extern "C" fn morel_frame_header(used: usize, bytes: &mut [u8]) -> u8
+#[tactic(auto, unfolding(crate::specs::Told::header_told, crate::specs::Told::bytes_over))]
+pub fn morel_frame_header(used: usize, bytes: &mut [u8]) -> u8
     ensures code { result ≡ code_of (header_told used (length bytes.old)) }
     ensures lent { bytes.new ≡ bytes_over bytes.old (header_told used (length bytes.old)) (header_left used) }
 {

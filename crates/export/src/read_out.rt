@@ -17,16 +17,14 @@ use sii::{
 use wire::flag;
 
 // The CRC-8 of the bytes.
-#[unsafe(no_mangle)]
-pub extern "C" fn morel_crc(bytes: &[u8]) -> u8
+pub fn morel_crc(bytes: &[u8]) -> u8
     ensures { result ≡ crc_of bytes.now }
 {
     crc::crc(bytes)
 }
 
 // The configured station alias.
-#[unsafe(no_mangle)]
-pub extern "C" fn morel_station_alias(image: &[u8], out: &mut [u64]) -> u8
+pub fn morel_station_alias(image: &[u8], out: &mut [u64]) -> u8
     ensures code { result ≡ code_of (alias_said image.now) }
     ensures lent { out.new ≡ row_over out.old (alias_said image.now) }
 {
@@ -40,8 +38,7 @@ pub extern "C" fn morel_station_alias(image: &[u8], out: &mut [u64]) -> u8
 }
 
 // Sets the configured station alias and the checksum; a refusal leaves the image as it is.
-#[unsafe(no_mangle)]
-pub extern "C" fn morel_set_station_alias(image: &mut [u8], alias: u16) -> u8
+pub fn morel_set_station_alias(image: &mut [u8], alias: u16) -> u8
     ensures code { result ≡ code_of (set_said image.old) }
     ensures lent { image.new ≡ set_image image.old alias }
 {
@@ -52,8 +49,7 @@ pub extern "C" fn morel_set_station_alias(image: &mut [u8], alias: u16) -> u8
 }
 
 // Vendor, product, revision and serial number.
-#[unsafe(no_mangle)]
-pub extern "C" fn morel_identity(image: &[u8], out: &mut [u64]) -> u8
+pub fn morel_identity(image: &[u8], out: &mut [u64]) -> u8
     ensures code { result ≡ code_of (identity_said image.now) }
     ensures lent { out.new ≡ row_over out.old (identity_said image.now) }
 {
@@ -67,8 +63,7 @@ pub extern "C" fn morel_identity(image: &[u8], out: &mut [u64]) -> u8
 }
 
 // The standard mailbox.
-#[unsafe(no_mangle)]
-pub extern "C" fn morel_mailbox_config(image: &[u8], out: &mut [u64]) -> u8
+pub fn morel_mailbox_config(image: &[u8], out: &mut [u64]) -> u8
     ensures code { result ≡ code_of (mailbox_said image.now) }
     ensures lent { out.new ≡ row_over out.old (mailbox_said image.now) }
 {
@@ -82,8 +77,7 @@ pub extern "C" fn morel_mailbox_config(image: &[u8], out: &mut [u64]) -> u8
 }
 
 // The size of the EEPROM in bytes.
-#[unsafe(no_mangle)]
-pub extern "C" fn morel_size(image: &[u8], out: &mut [u64]) -> u8
+pub fn morel_size(image: &[u8], out: &mut [u64]) -> u8
     ensures code { result ≡ code_of (size_said image.now) }
     ensures lent { out.new ≡ row_over out.old (size_said image.now) }
 {
@@ -97,8 +91,7 @@ pub extern "C" fn morel_size(image: &[u8], out: &mut [u64]) -> u8
 }
 
 // Where the category of this number starts and ends, in bytes.
-#[unsafe(no_mangle)]
-pub extern "C" fn morel_category(image: &[u8], number: u16, out: &mut [u64]) -> u8
+pub fn morel_category(image: &[u8], number: u16, out: &mut [u64]) -> u8
     ensures code { result ≡ code_of (category_said image.now number) }
     ensures lent { out.new ≡ row_over out.old (category_said image.now number) }
 {
@@ -113,8 +106,7 @@ pub extern "C" fn morel_category(image: &[u8], number: u16, out: &mut [u64]) -> 
 }
 
 // Whether all that the search for the category of this number looks at, and the category that it finds, lie in the image: 1 or 0.
-#[unsafe(no_mangle)]
-pub extern "C" fn morel_category_inside(image: &[u8], number: u16, out: &mut [u64]) -> u8
+pub fn morel_category_inside(image: &[u8], number: u16, out: &mut [u64]) -> u8
     ensures code { result ≡ code_of (inside_said image.now number) }
     ensures lent { out.new ≡ row_over out.old (inside_said image.now number) }
 {
@@ -128,8 +120,7 @@ pub extern "C" fn morel_category_inside(image: &[u8], number: u16, out: &mut [u6
 }
 
 // The category General; not found is refusal 3.
-#[unsafe(no_mangle)]
-pub extern "C" fn morel_general(image: &[u8], out: &mut [u64]) -> u8
+pub fn morel_general(image: &[u8], out: &mut [u64]) -> u8
     ensures code { result ≡ code_of (general_said image.now) }
     ensures lent { out.new ≡ row_over out.old (general_said image.now) }
 {

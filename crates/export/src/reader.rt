@@ -17,8 +17,7 @@ const PDU_NUMBERS: usize = 9;
 
 // The PDUs of a frame: how many, and of each its command, index, address, length, circulated, more-follows, IRQ, payload's place and working counter.
 // Where the bytes are no frame it is refusal 12, and no PDUs.
-#[unsafe(no_mangle)]
-pub extern "C" fn morel_read_frame(frame: &[u8], out: &mut [u64]) -> u8
+pub fn morel_read_frame(frame: &[u8], out: &mut [u64]) -> u8
     ensures code { result ≡ code_of (read_said (read_of frame.now)) }
     ensures lent { out.new ≡ pdus_over out.old (pdus_of (read_of frame.now)) }
 {

@@ -16,8 +16,7 @@ const STATE_NUMBERS: usize = 3;
 
 // The image goes over the areas of the row, each of `size` bytes, as logical PDUs of this command from this address on.
 // The first area has the state (used, count, last); the answer's number is that of the last area that has a PDU of the image, 0 for no image.
-#[unsafe(no_mangle)]
-pub extern "C" fn morel_spread(
+pub fn morel_spread(
     areas: &mut [u8],
     size: usize,
     used: usize,

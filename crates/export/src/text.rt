@@ -24,8 +24,7 @@ fn of_string(out: &mut [u64], r: StringAnswer) -> u8
 }
 
 // The string of an index.
-#[unsafe(no_mangle)]
-pub extern "C" fn morel_find_string(image: &[u8], index: u8, room: &mut [u8], out: &mut [u64]) -> u8
+pub fn morel_find_string(image: &[u8], index: u8, room: &mut [u8], out: &mut [u64]) -> u8
     ensures code { result ≡ code_of (length_said (string_said image.now index (length room.old))) }
     ensures text { room.new ≡ room_behind (string_said image.now index (length room.old)) room.old }
     ensures lent { out.new ≡ row_over out.old (length_said (string_said image.now index (length room.old))) }
@@ -35,8 +34,7 @@ pub extern "C" fn morel_find_string(image: &[u8], index: u8, room: &mut [u8], ou
 }
 
 // The device's name; absent without General.
-#[unsafe(no_mangle)]
-pub extern "C" fn morel_device_name(image: &[u8], room: &mut [u8], out: &mut [u64]) -> u8
+pub fn morel_device_name(image: &[u8], room: &mut [u8], out: &mut [u64]) -> u8
     ensures code { result ≡ code_of (length_said (name_said image.now (length room.old))) }
     ensures text { room.new ≡ room_behind (name_said image.now (length room.old)) room.old }
     ensures lent { out.new ≡ row_over out.old (length_said (name_said image.now (length room.old))) }
@@ -46,8 +44,7 @@ pub extern "C" fn morel_device_name(image: &[u8], room: &mut [u8], out: &mut [u6
 }
 
 // The device's description; without General it is refusal 3.
-#[unsafe(no_mangle)]
-pub extern "C" fn morel_device_description(image: &[u8], room: &mut [u8], out: &mut [u64]) -> u8
+pub fn morel_device_description(image: &[u8], room: &mut [u8], out: &mut [u64]) -> u8
     ensures code { result ≡ code_of (length_said (description_said image.now (length room.old))) }
     ensures text { room.new ≡ room_behind (description_said image.now (length room.old)) room.old }
     ensures lent { out.new ≡ row_over out.old (length_said (description_said image.now (length room.old))) }

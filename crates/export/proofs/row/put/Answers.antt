@@ -1,0 +1,14 @@
+-- `put` copies the smaller of what there is and what has room.
+use mathlib.Core.Path.{sym}
+use Rattle.wire.proofs.Laws.{laid-least, laid-past}
+use Rattle.export.proofs.row.put.Goals as goal
+
+pub returns-then-at-row : goal.returns-then-at-row
+returns-then-at-row c =
+    let a = c.args in
+    laid-least a.row.now a.at a.xs.now _ _ c.lesser-n.ensures c.copy_in.ensures
+
+pub returns-else-at-row : goal.returns-else-at-row
+returns-else-at-row c =
+    let a = c.args in
+    sym (laid-past a.row.now a.at a.xs.now c.if-at-row.false)
