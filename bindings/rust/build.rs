@@ -1,4 +1,4 @@
-//! Links `libexport.a`, which `rt staticlib export` writes: from the folder that `MORELBARREL_LIB` names, or from the repository's `target/staticlib`.
+//! Links `libexport.a`, which `bindings/archive` makes: from the folder that `MORELBARREL_LIB` names, or from the repository's `target/staticlib`.
 use std::env;
 use std::path::PathBuf;
 
@@ -15,7 +15,7 @@ fn main() {
         panic!("libexport.a holds code for Linux on x86-64, and this is a build for {target}");
     }
     if !archive.is_file() {
-        panic!("{} is missing: run `rt staticlib export`, or name its folder in MORELBARREL_LIB", archive.display());
+        panic!("{} is missing: run `bindings/archive`, or name its folder in MORELBARREL_LIB", archive.display());
     }
     println!("cargo:rustc-link-search=native={}", folder.display());
     println!("cargo:rustc-link-lib=static=export");
