@@ -1,5 +1,7 @@
 // Standard input by lines, and the answers that wait to be written.
 use crate::numbers::front;
+use std::io;
+use std::io::{Input, Print, Read};
 use wire::byte_at;
 
 // Between two turns.
@@ -81,23 +83,29 @@ pub(crate) fn take(chunk: &[u8], s: State, line: &mut [u8]) -> State {
 }
 
 // Writes the answers out, if there are more than so many bytes of them, and says how many wait then.
-pub(crate) fn flush(out: &[u8], k: usize, most: usize) -> usize {
+pub(crate) fn flush<R: Print>(rt: &R, out: &[u8], k: usize, most: usize) -> io::Result<usize> {
     if most < k {
-        io::write_all(libc::STDOUT_FILENO, front(out, k));
-        0
+        rt.write_all(front(out, k))?;
+        Ok(0)
     } else {
-        k
+        Ok(k)
     }
 }
 
 // Reads on. All answers go out before, for there may be a wait. At the input's end a begun line gets its end.
-pub(crate) fn refill(chunk: &mut [u8], out: &[u8], s: State) -> State {
-    flush(out, s.waiting, 0);
-    let n = io::count(libc::read(libc::STDIN_FILENO, chunk), chunk);
+pub(crate) fn refill<R: Input + Print>(
+    rt: &R,
+    chunk: &mut [u8],
+    out: &[u8],
+    s: State,
+) -> io::Result<State> {
+    flush(rt, out, s.waiting, 0)?;
+    let mut reader = rt.reader();
+    let n = reader.read(chunk)?;
     if n == 0 {
-        close(chunk, s)
+        Ok(close(chunk, s))
     } else {
-        filled(s, n, false)
+        Ok(filled(s, n, false))
     }
 }
 

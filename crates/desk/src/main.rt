@@ -1,5 +1,6 @@
 // The desk: requests in, answers out, a line each, in the form of docs/DESK.md. Every line gets an answer, whatever its bytes are.
 #![tactic(auto)]
+
 mod input;
 mod numbers;
 mod on_frames;
@@ -18,6 +19,8 @@ mod words;
 use crate::input::State;
 use crate::requests::answer;
 use eeprom::IMAGE_MOST;
+use std::io;
+use std::io::{Input, Print};
 
 // The most BYTES that a word may have: twice those of an image, so that one that is too long is answered by the call itself.
 const BYTES_MOST: usize = 2 * IMAGE_MOST;
@@ -29,7 +32,7 @@ const LINE_MOST: usize = 4 * BYTES_MOST + IMAGE_MOST;
 const MOST_WAITING: usize = LINE_MOST / 2;
 
 // Buffers for input, one line, the BYTES of a request, its numbers, its answer's numbers, and answers that wait.
-fn main() {
+fn main(rt: HostRuntime) -> io::Result<()> {
     let mut chunk = [0u8; 65536];
     let mut line = longest();
     let mut first = bytes();
@@ -38,6 +41,7 @@ fn main() {
     let mut values = [0u64; 1600];
     let mut out = longest();
     serve(
+        &rt,
         &mut chunk,
         &mut line,
         &mut first,
@@ -45,7 +49,7 @@ fn main() {
         &mut nums,
         &mut values,
         &mut out,
-    );
+    )
 }
 
 // Room for the longest line, and for the answers that wait.
@@ -59,7 +63,8 @@ fn bytes() -> [u8; BYTES_MOST] {
 }
 
 // The bytes at hand, up to a line's end; if there is one, the line's answer.
-fn proceed(
+fn proceed<R: Print>(
+    rt: &R,
     chunk: &[u8],
     line: &mut [u8],
     first: &mut [u8],
@@ -68,19 +73,21 @@ fn proceed(
     values: &mut [u64],
     out: &mut [u8],
     s: State,
-) -> State {
+) -> io::Result<State> {
     let t = input::take(chunk, s, line);
     if t.whole {
         let n = t.length;
         let k = t.waiting;
         let j = answer(line, n, first, second, nums, values, out, k);
-        input::begin(t, input::flush(out, j, MOST_WAITING))
+        let waiting = input::flush(rt, out, j, MOST_WAITING)?;
+        Ok(input::begin(t, waiting))
     } else {
-        t
+        Ok(t)
     }
 }
 
-fn turn(
+fn turn<R: Input + Print>(
+    rt: &R,
     chunk: &mut [u8],
     line: &mut [u8],
     first: &mut [u8],
@@ -89,16 +96,17 @@ fn turn(
     values: &mut [u64],
     out: &mut [u8],
     s: State,
-) -> State {
+) -> io::Result<State> {
     if s.at < s.have {
-        proceed(chunk, line, first, second, nums, values, out, s)
+        proceed(rt, chunk, line, first, second, nums, values, out, s)
     } else {
-        input::refill(chunk, out, s)
+        input::refill(rt, chunk, out, s)
     }
 }
 
-// A proved loop has to end, and nothing says that the input does: the turns count down from a number that no run uses up.
-fn serve(
+// A proved loop has to end, and nothing says that the input does: the turns are a number that no run uses up.
+fn serve<R: Input + Print>(
+    rt: &R,
     chunk: &mut [u8],
     line: &mut [u8],
     first: &mut [u8],
@@ -106,14 +114,13 @@ fn serve(
     nums: &mut [u64],
     values: &mut [u64],
     out: &mut [u8],
-) {
-    let mut turns = u64::MAX;
+) -> io::Result<()> {
     let mut s = input::start();
-    while 0 < turns {
-        turns -= 1;
-        s = turn(chunk, line, first, second, nums, values, out, s);
+    for _ in 0..u64::MAX {
+        s = turn(rt, chunk, line, first, second, nums, values, out, s)?;
         if s.end {
-            return;
+            break;
         }
     }
+    Ok(())
 }
