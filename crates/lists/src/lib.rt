@@ -185,6 +185,7 @@ fn sms_in(image: &[u8], chunk: Chunk, start: u32, end: u32) -> SyncManagers
     }
 }
 
+#[tactic(auto, unfolding(crate::specs::SyncManagers::sm_at))]
 fn sm_item(image: &[u8], chunk: Chunk, at: u32, end: u32) -> SmItem
     requires { at ≤ place_most }
     ensures { item_sm result ≡ sm_at image.now end at }
@@ -245,6 +246,7 @@ pub fn usage_type(sm: SyncManager) -> u8
     }
 }
 
+#[tactic(auto, unfolding(crate::specs::SyncManagers::recovered))]
 fn recovered(mode: u8, direction: u8) -> u8
     ensures { result ≡ recovered mode direction }
 {
@@ -372,6 +374,7 @@ fn usage_item(image: &[u8], chunk: Chunk, at: u32, end: u32) -> FmmuItem
     }
 }
 
+#[tactic(auto, unfolding(crate::specs::Fmmus::usage_admits))]
 fn usage_admitted(usage: u8) -> bool
     ensures { result ≡ usage_admits usage }
 {

@@ -147,6 +147,7 @@ pub fn station_alias(image: &[u8], chunk: Chunk) -> AliasAnswer
 }
 
 // Sets the configured station alias and the checksum; a refusal changes nothing.
+#[tactic(auto, unfolding(crate::specs::Fixed::lent, crate::specs::Fixed::set_said, crate::specs::Fixed::set_image))]
 pub fn set_station_alias(image: &mut [u8], alias: u16) -> AliasSet
     ensures said { said_set result ≡ set_said image.old }
     ensures lent { image.new ≡ set_image image.old alias }
@@ -203,6 +204,7 @@ fn identity_in(image: &[u8], chunk: Chunk) -> SubDeviceIdentity
 }
 
 // The standard mailbox.
+#[tactic(auto, unfolding(crate::specs::Fixed::lent, crate::specs::Fixed::mailbox_said))]
 pub fn mailbox_config(image: &[u8], chunk: Chunk) -> MailboxAnswer
     ensures { said_mailbox result ≡ mailbox_said image.now }
 {

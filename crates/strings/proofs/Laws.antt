@@ -195,6 +195,9 @@ pub put_one : (b k : ℕ) (room : List ℕ) → (b ≡ 0 → ⊥) → k < length
 unfolding shown
 put_one b k room n h = rw (ne_eqb b 0 n) (refl, overlay-one room k (ascii b) h)
 
+-- .. the two together
+pub ruleset put_lem = (put-none, put_one)
+
 -- the text of i bytes is laid
 pub record Laid (image : List ℕ) (at i : ℕ) (room₀ room : List ℕ) (k : ℕ) : Type 0 where
   pub count : k ≡ length (shown (span image at i))

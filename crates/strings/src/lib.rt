@@ -240,6 +240,7 @@ fn lay_text(image: &[u8], chunk: Chunk, at: u32, n: u32, room: &mut [u8]) -> usi
 }
 
 // The text of one byte goes to place k of the room; answers the next place.
+#[tactic(auto, using(crate::proofs::Laws::put_lem), unfolding(crate::specs::Strings::shown))]
 fn put(b: u8, k: usize, room: &mut [u8]) -> usize
     requires { k < length room.old }
     ensures said { result ≡ k + length (shown (b ∷ [])) }
@@ -253,6 +254,7 @@ fn put(b: u8, k: usize, room: &mut [u8]) -> usize
     }
 }
 
+#[tactic(auto, unfolding(crate::specs::Strings::ascii))]
 fn as_ascii(b: u8) -> u8
     ensures { result ≡ ascii b }
 {
