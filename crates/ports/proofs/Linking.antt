@@ -1,12 +1,12 @@
 -- What assigning comes to: the port that it takes was active and unlinked and is not the entry port, it has the link afterwards, and nothing else of the record
 -- changes. The assigning rule is opened in the laws of its name, assignable-from and the rest, and nowhere else.
-use Rattle.std.proofs.Common.{◌≡◌, ℕ, ◌+◌, ◌%◌, ◌<◌, ◌≤◌, Bool, true, false, ◌&&◌, eqb, ltb, ◌≢◌, List, [], ◌∷◌, length, sym, refl, ap, ◌∙◌, subst, true≢false, arith, get_or-set_other, get_or-set_same, ltb-false, ltb-true, le-ltb, lt-ltb, eq-eqb, ne_eqb, eqb-true}
+use Rattle.std.proofs.Common.{◌≡◌, ℕ, ◌<◌, ◌≤◌, Bool, true, false, ◌&&◌, eqb, ltb, ◌≢◌, List, [], ◌∷◌, length, sym, refl, ap, ◌∙◌, subst, true≢false, arith, get_or-set_other, get_or-set_same, ltb-false, ltb-true, le-ltb, lt-ltb, eq-eqb, ne_eqb, eqb-true}
 use lib.ListN.{get_or-eq_default}
 use borrow.Author.Tests.{eqb-false}
 use Rattle.refusal.specs.Said.{Said, pick, gives, absent, refuses}
 use Rattle.ports.specs.declared.Port.{Port}
 use Rattle.ports.specs.declared.Ports.{Ports}
-use Rattle.ports.specs.Ports.{port_count, nowhere, number_at, place_of, no_port, port_at, active_at, unlinked_at, first_that, entry, linked, link_set}
+use Rattle.ports.specs.Ports.{nowhere, number_at, place_of, no_port, port_at, active_at, unlinked_at, first_that, entry, linked, link_set}
 use Rattle.ports.specs.Assigning.{others_from, open_at, assignable, assigned_said, linked_as, assigned_ports}
 use Rattle.ports.specs.Meaning.{Took}
 use Rattle.ports.proofs.Laws.{at_each, All, number_low, place-number}
