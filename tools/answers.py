@@ -3,14 +3,13 @@
 
 Run at the top of the repository. It asks `rt check --generated DIR --old-names` for the old and new name of each goal, place and loop, keeps the
 answers that are more than a search, and takes Proof.antt away. What it cannot tell it leaves behind '-- ?'. A start for the hand, not a verdict."""
-import json, os, re, subprocess, sys, glob
+import glob, json, os, re, subprocess, sys, tempfile
 
 crate = sys.argv[1]
 only = set(sys.argv[2:])
 root = os.getcwd()
 folder = os.path.join(root, "crates", crate)
-out = "/tmp/names-" + crate + "-" + str(os.getpid())
-os.makedirs(out, exist_ok=True)
+out = tempfile.mkdtemp(prefix="names-" + crate + "-")
 done = subprocess.run(["rt", "check", "--generated", out, "--old-names"], cwd=folder, capture_output=True, text=True)
 try:
     names = json.load(open(os.path.join(out, "names.json")))

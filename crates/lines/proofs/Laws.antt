@@ -287,3 +287,8 @@ next_as n k r s t e h = rw (← e) h
 
 pub laid_as : (xs ys : List ℕ) (k : ℕ) (s t : List ℕ) → s ≡ t → ys ≡ laid xs k s → ys ≡ laid xs k t
 laid_as xs ys k s t e h = rw (← e) h
+
+-- .. both at once
+pub said_as : (xs ys : List ℕ) (k r : ℕ) (s t : List ℕ) → s ≡ t → (r ≡ after (length xs) k (length s)) × (ys ≡ laid xs k s)
+    → (r ≡ after (length xs) k (length t)) × (ys ≡ laid xs k t)
+said_as xs ys k r s t e h = rw (← e) h
