@@ -9,7 +9,7 @@ ghost use Rattle.category.specs.Category.{numbers, empty_most, among, counted, d
 ghost use Rattle.category.specs.Inside.{header_end, last_header, end_inside, inside_said};
 ghost use Rattle.category.specs.Answers.{said_found, said_inside, said_step};
 
-use eeprom::{Chunk, Range, RangeAnswer, image_within, word_of};
+use eeprom::{Chunk, Range, image_within, word_of};
 use refusal::Refusal;
 
 // The categories that may be sought, by their numbers in the SII.
@@ -46,44 +46,24 @@ const END: u16 = 65535;
 
 const EMPTY_MOST: u32 = 32;
 
-// What a search answers.
-#[derive(Clone, Copy)]
-pub enum Found {
-    // The category's body, from its first byte to its end.
-    At(Range),
-    // The image has none that the search reaches.
-    Absent,
-    // 14: the image is too long, or the number may not be sought.
-    // 1: a length leads past the last word, or the range would end above its limit.
-    No(Refusal),
-}
-
-// Whether all that a search looks at lies in the image.
-#[derive(Clone, Copy)]
-pub enum InsideAnswer {
-    Inside(bool),
-    // 14 and 1, as the search's own.
-    No(Refusal),
-}
-
 // Where a search ends: its last header's word, and what it answers.
 #[derive(Clone, Copy)]
 struct Ending {
     word: u32,
-    found: Found,
+    found: Result<Option<Range>, Refusal>,
 }
 
 // What a header leads to.
 #[derive(Clone, Copy)]
 enum Step {
     // The search ends.
-    Done(Found),
+    Done(Result<Option<Range>, Refusal>),
     // The next header's word, and the count of empty headers so far.
     Next(u32, u32),
 }
 
 // Finds the first category of this number, within the first 31 empty headers. A number that may not be sought is 14.
-pub fn category(image: &[u8], chunk: Chunk, number: u16) -> Found
+pub fn category(image: &[u8], chunk: Chunk, number: u16) -> Result<Option<Range>, Refusal>
     ensures { said_found result ≡ category_said image.now number }
 {
     if image_within(image) {
@@ -91,16 +71,16 @@ pub fn category(image: &[u8], chunk: Chunk, number: u16) -> Found
             let ending = search(image, chunk, number);
             ending.found
         } else {
-            Found::No(Refusal::BadArgument)
+            Err(Refusal::BadArgument)
         }
     } else {
-        Found::No(Refusal::BadArgument)
+        Err(Refusal::BadArgument)
     }
 }
 
 // Whether the headers that the search for this number looks at, the mark, and the category that it finds lie in the image.
 // Past the image a byte reads as 0xFF, and a mark read there is none. Where `category` refuses, its refusal.
-pub fn category_inside(image: &[u8], chunk: Chunk, number: u16) -> InsideAnswer
+pub fn category_inside(image: &[u8], chunk: Chunk, number: u16) -> Result<bool, Refusal>
     ensures { said_inside result ≡ inside_said image.now number }
 {
     if image_within(image) {
@@ -110,24 +90,27 @@ pub fn category_inside(image: &[u8], chunk: Chunk, number: u16) -> InsideAnswer
             let found = ending.found;
             end_inside(image, chunk, word, found)
         } else {
-            InsideAnswer::No(Refusal::BadArgument)
+            Err(Refusal::BadArgument)
         }
     } else {
-        InsideAnswer::No(Refusal::BadArgument)
+        Err(Refusal::BadArgument)
     }
 }
 
 // .. where it ended at the header at word with this.
-fn end_inside(image: &[u8], chunk: Chunk, word: u32, found: Found) -> InsideAnswer
+fn end_inside(
+    image: &[u8],
+    chunk: Chunk,
+    word: u32,
+    found: Result<Option<Range>, Refusal>,
+) -> Result<bool, Refusal>
     requires { word ≤ word_most }
     ensures { said_inside result ≡ end_inside image.now word (said_found found) }
 {
     match found {
-        Found::At(g) => InsideAnswer::Inside((g.end as usize) <= image.len()),
-        Found::Absent => InsideAnswer::Inside(
-            (header_end(image, chunk, word) as usize) <= image.len(),
-        ),
-        Found::No(x) => InsideAnswer::No(x),
+        Ok(Some(g)) => Ok((g.end as usize) <= image.len()),
+        Ok(None) => Ok((header_end(image, chunk, word) as usize) <= image.len()),
+        Err(x) => Err(x),
     }
 }
 
@@ -211,30 +194,30 @@ fn decide(category_type: u16, len_words: u16, number: u16, body: u32, e: u32) ->
     ensures { said_step result ≡ decided category_type len_words number body e }
 {
     if WORD_MOST < body {
-        return Step::Done(Found::Absent);
+        return Step::Done(Ok(None));
     }
     if EMPTY_MOST <= e {
-        return Step::Done(Found::Absent); // even if it is of the number sought
+        return Step::Done(Ok(None)); // even if it is of the number sought
     }
     if category_type == number {
         return Step::Done(as_found(Range::new(body as u16, len_words)));
     }
     if category_type == END {
-        return Step::Done(Found::Absent);
+        return Step::Done(Ok(None));
     }
     let next = body + (len_words as u32);
     if WORD_MOST < next {
-        Step::Done(Found::No(Refusal::Address))
+        Step::Done(Err(Refusal::Address))
     } else {
         Step::Next(next, e)
     }
 }
 
-fn as_found(range: RangeAnswer) -> Found
+fn as_found(range: Result<Range, Refusal>) -> Result<Option<Range>, Refusal>
     ensures { said_found result ≡ said_range range }
 {
     match range {
-        RangeAnswer::Made(g) => Found::At(g),
-        RangeAnswer::No(x) => Found::No(x),
+        Ok(g) => Ok(Some(g)),
+        Err(x) => Err(x),
     }
 }

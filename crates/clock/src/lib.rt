@@ -9,7 +9,7 @@ ghost use Rattle.lists.specs.Records.{records, back};
 ghost use Rattle.clock.specs.Clocks.{clock_of, clock_values, clock_zero, clock_most, clock_at, clocks_of};
 ghost use Rattle.clock.specs.Answers.{item_clock, back_clocks};
 
-use category::{DISTRIBUTED_CLOCK, Found, category};
+use category::{DISTRIBUTED_CLOCK, category};
 use eeprom::{Chunk, byte_of, long_of, word_of};
 use lists::ListAnswer;
 use refusal::Refusal;
@@ -57,21 +57,14 @@ pub struct DistributedClocks {
     pub items: [DistributedClock; 8],
 }
 
-// What stands at a position: a record and where the next one starts, or no whole record.
-#[derive(Clone, Copy)]
-enum ClockItem {
-    One(DistributedClock, u32),
-    Stop,
-}
-
 // The modes of the distributed clock.
 pub fn distributed_clocks(image: &[u8], chunk: Chunk) -> DistributedClocks
     ensures { back_clocks result ≡ back clock_zero clock_most (clocks_of image.now) }
 {
     match category(image, chunk, DISTRIBUTED_CLOCK) {
-        Found::At(g) => clocks_in(image, chunk, g.byte_pos, g.end),
-        Found::Absent => no_clocks(ListAnswer::Listed),
-        Found::No(x) => no_clocks(ListAnswer::No(x)),
+        Ok(Some(g)) => clocks_in(image, chunk, g.byte_pos, g.end),
+        Ok(None) => no_clocks(ListAnswer::Listed),
+        Err(x) => no_clocks(ListAnswer::No(x)),
     }
 }
 
@@ -107,7 +100,7 @@ fn clocks_in(image: &[u8], chunk: Chunk, start: u32, end: u32) -> DistributedClo
     let mut at = start;
     loop {
         match clock_item(image, chunk, at, end) {
-            ClockItem::One(clock, next) => {
+            Some((clock, next)) => {
                 if count < CLOCK_MOST {
                     items[count] = clock;
                     count += 1;
@@ -116,7 +109,7 @@ fn clocks_in(image: &[u8], chunk: Chunk, start: u32, end: u32) -> DistributedClo
                     return no_clocks(ListAnswer::No(Refusal::Capacity));
                 }
             }
-            ClockItem::Stop => {
+            None => {
                 return DistributedClocks {
                     answer: ListAnswer::Listed,
                     count,
@@ -127,15 +120,15 @@ fn clocks_in(image: &[u8], chunk: Chunk, start: u32, end: u32) -> DistributedClo
     }
 }
 
-fn clock_item(image: &[u8], chunk: Chunk, at: u32, end: u32) -> ClockItem
+fn clock_item(image: &[u8], chunk: Chunk, at: u32, end: u32) -> Option<(DistributedClock, u32)>
     requires { at ≤ place_most }
     ensures { item_clock result ≡ clock_at image.now end at }
 {
     let next = at + CLOCK_BYTES;
     if next <= end {
-        ClockItem::One(clock_at(image, chunk, at), next)
+        Some((clock_at(image, chunk, at), next))
     } else {
-        ClockItem::Stop
+        None
     }
 }
 

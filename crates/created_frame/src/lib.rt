@@ -2,7 +2,7 @@
 // headers are packed by `pdu`. The state of an area goes in and comes back by value, and so does the index counter.
 #![tactic(auto)]
 
-ghost use Rattle.std.specs.Prelude.{◌≡◌, ◌+◌, ◌<◌, ◌≤◌, max, length};
+ghost use Rattle.std.specs.Prelude.{Err, ◌≡◌, ◌+◌, ◌<◌, ◌≤◌, max, length};
 ghost use Rattle.pdu.specs.Pdu.{area_most, pdu_overhead, more_at};
 ghost use Rattle.created_frame.specs.Frame.{marked, sound, acceptable, with_pdu, Roomy, grown, pushed, pushed_builder, pushed_next, after_push, opened, after_open, taken, rest_pushed, rest_builder, rest_next, after_rest, can_push};
 ghost use Rattle.created_frame.specs.Answers.{handle_values, state_values, said_opened, said_pushed, said_rest, said_can};
@@ -34,72 +34,33 @@ pub struct PduResponseHandle {
     pub command: u8,
 }
 
-// What opening an area answers.
-#[derive(Clone, Copy)]
-pub enum Opened {
-    // The state of an empty area.
-    Ready(Builder),
-    // 14: an area of more than 2,047 bytes.
-    No(Refusal),
-}
-
-// What a push answers.
-#[derive(Clone, Copy)]
-pub enum Pushed {
-    Done(PduResponseHandle),
-    // 14: a state, command or length out of bounds. 8: no space.
-    No(Refusal),
-}
-
 // A push's answer, the state after it, and the index of the next PDU.
 #[derive(Clone, Copy)]
 pub struct Push {
-    pub answer: Pushed,
+    pub answer: Result<PduResponseHandle, Refusal>,
     pub builder: Builder,
     pub next: u8,
-}
-
-// What a push of as much as fits answers.
-#[derive(Clone, Copy)]
-pub enum Rest {
-    // How many bytes went in, and the PDU.
-    Done {
-        taken: usize,
-        pdu: PduResponseHandle,
-    },
-    // No input, or no room.
-    Absent,
-    // 14: a state, command or length out of bounds.
-    No(Refusal),
 }
 
 // Its answer, the state after it, and the index of the next PDU.
 #[derive(Clone, Copy)]
 pub struct RestPush {
-    pub answer: Rest,
+    pub answer: Result<Option<(usize, PduResponseHandle)>, Refusal>,
     pub builder: Builder,
     pub next: u8,
 }
 
-// Whether a payload has room.
-#[derive(Clone, Copy)]
-pub enum CanPush {
-    Room(bool),
-    // 14: a state or length out of bounds.
-    No(Refusal),
-}
-
 // Zeroes the area, and gives the state of an empty one.
 #[tactic(auto, unfolding(crate::specs::Frame::opened, crate::specs::Frame::after_open))]
-pub fn open(area: &mut [u8]) -> Opened
+pub fn open(area: &mut [u8]) -> Result<Builder, Refusal>
     ensures answer { said_opened result ≡ opened (length area.old) }
     ensures whole { area.new ≡ after_open area.old }
 {
     if AREA_MOST < area.len() {
-        return Opened::No(Refusal::BadArgument);
+        return Err(Refusal::BadArgument);
     }
     wire::fill(area, 0);
-    Opened::Ready(Builder {
+    Ok(Builder {
         used: 0,
         count: 0,
         last: 0,
@@ -132,7 +93,7 @@ pub fn push_pdu(
     }
     append(area, b, index, command, address, len, bytes);
     Push {
-        answer: Pushed::Done(handle_of(b, len, index, command)),
+        answer: Ok(handle_of(b, len, index, command)),
         builder: grow(b, len),
         next,
     }
@@ -155,18 +116,15 @@ pub fn push_pdu_slice_rest(
 {
     let next = std::num::wrapping_add_u8(index, 1);
     if !is_acceptable(area.len(), b, command, bytes.len(), 0) {
-        return without(Rest::No(Refusal::BadArgument), b, index);
+        return without(Err(Refusal::BadArgument), b, index);
     }
     let n = rest_len(area.len(), b.used, bytes.len());
     if n == 0 {
-        return without(Rest::Absent, b, index);
+        return without(Ok(None), b, index);
     }
     append(area, b, index, command, address, n, &bytes[..n]);
     RestPush {
-        answer: Rest::Done {
-            taken: n,
-            pdu: handle_of(b, n, index, command),
-        },
+        answer: Ok(Some((n, handle_of(b, n, index, command)))),
         builder: grow(b, n),
         next,
     }
@@ -174,16 +132,16 @@ pub fn push_pdu_slice_rest(
 
 // Whether a PDU of len payload bytes has room.
 #[tactic(auto, unfolding(crate::specs::Frame::can_push, crate::specs::Frame::room, crate::specs::Frame::sound))]
-pub fn can_push_pdu_payload(size: usize, b: Builder, len: usize) -> CanPush
+pub fn can_push_pdu_payload(size: usize, b: Builder, len: usize) -> Result<bool, Refusal>
     ensures { said_can result ≡ can_push size b len }
 {
     if !is_sound(size, b) {
-        return CanPush::No(Refusal::BadArgument);
+        return Err(Refusal::BadArgument);
     }
     if DATA_MOST < len {
-        return CanPush::No(Refusal::BadArgument);
+        return Err(Refusal::BadArgument);
     }
-    CanPush::Room(b.used + (len + PDU_OVERHEAD_BYTES) <= size)
+    Ok(b.used + (len + PDU_OVERHEAD_BYTES) <= size)
 }
 
 // The state fits an area of size bytes.
@@ -334,17 +292,21 @@ fn handle_of(b: Builder, len: usize, index: u8, command: u8) -> PduResponseHandl
 
 // A refused push: the state is as it was.
 fn refused(x: Refusal, b: Builder, next: u8) -> Push
-    ensures { result ≡ record { answer = Pushed.No x; builder = b; next = next } }
+    ensures { result ≡ record { answer = Err x; builder = b; next = next } }
 {
     Push {
-        answer: Pushed::No(x),
+        answer: Err(x),
         builder: b,
         next,
     }
 }
 
 // A push of as much as fits that adds no PDU.
-fn without(answer: Rest, b: Builder, next: u8) -> RestPush
+fn without(
+    answer: Result<Option<(usize, PduResponseHandle)>, Refusal>,
+    b: Builder,
+    next: u8,
+) -> RestPush
     ensures { result ≡ record { answer = answer; builder = b; next = next } }
 {
     RestPush {

@@ -3,9 +3,7 @@ use crate::numbers::{at, byte, long, put, put_all};
 use crate::reply::{
     FIRST, Reply, absent, gives, gives_one, gives_row, refuses, unreadable, with_record, with_slice,
 };
-use created_frame::{
-    Builder, CanPush, Opened, Push, Pushed, Rest, RestPush, handle_row, state_row,
-};
+use created_frame::{Builder, Push, RestPush, handle_row, state_row};
 use frame_reader::{FrameAnswer, FrameRead};
 use pdu::{FrameHead, HeaderAnswer, PduFields, pdu_row};
 use wire::{flag, lesser};
@@ -73,13 +71,13 @@ fn with_state(r: Reply, row: &mut [u64], b: Builder, index: u8) -> Reply {
     with_record(r3, row, &[index as u64])
 }
 
-fn of_opened(row: &mut [u64], r: Opened) -> Reply {
+fn of_opened(row: &mut [u64], r: Result<Builder, Refusal>) -> Reply {
     match r {
-        Opened::Ready(b) => {
+        Ok(b) => {
             let xs = state_row(b);
             with_record(gives_row(0), row, &xs)
         }
-        Opened::No(x) => {
+        Err(x) => {
             let xs = [0u64, 0, 0];
             with_record(refuses(row, x), row, &xs)
         }
@@ -93,14 +91,14 @@ fn open_area(area: &mut [u8], row: &mut [u64]) -> Reply {
 }
 
 // The first so many numbers of the handle are said.
-fn of_pushed(row: &mut [u64], r: Pushed, shown: usize) -> Reply {
+fn of_pushed(row: &mut [u64], r: Result<PduResponseHandle, Refusal>, shown: usize) -> Reply {
     match r {
-        Pushed::Done(h) => {
+        Ok(h) => {
             let xs = handle_row(h);
             put_all(row, 0, &xs);
             gives_row(shown)
         }
-        Pushed::No(x) => refuses(row, x),
+        Err(x) => refuses(row, x),
     }
 }
 
@@ -124,14 +122,14 @@ fn push(area: &mut [u8], nums: &[u64], data: &[u8], row: &mut [u64], shown: usiz
     with_slice(of_push(row, r, shown), FIRST, k)
 }
 
-fn of_rest(row: &mut [u64], r: Rest) -> Reply {
+fn of_rest(row: &mut [u64], r: Result<Option<(usize, PduResponseHandle)>, Refusal>) -> Reply {
     match r {
-        Rest::Done { taken, pdu } => {
+        Ok(Some((taken, pdu))) => {
             let xs = [taken as u64, pdu.start as u64, pdu.size as u64];
             gives(row, &xs)
         }
-        Rest::Absent => absent(),
-        Rest::No(x) => refuses(row, x),
+        Ok(None) => absent(),
+        Err(x) => refuses(row, x),
     }
 }
 
@@ -158,8 +156,8 @@ fn can_push(nums: &[u64], row: &mut [u64]) -> Reply {
     let size = at(nums, 0) as usize;
     let len = at(nums, 4) as usize;
     match created_frame::can_push_pdu_payload(size, state(nums, 1), len) {
-        CanPush::Room(b) => gives_one(row, flag(b)),
-        CanPush::No(x) => refuses(row, x),
+        Ok(b) => gives_one(row, flag(b)),
+        Err(x) => refuses(row, x),
     }
 }
 

@@ -5,9 +5,7 @@ use crate::reply::{
 };
 use crate::words::TOTALFROM;
 use held::after_assign;
-use ports::{
-    Assigned, Link, Port, PortAnswer, Ports, TextAnswer, TimeAnswer, Topology, TopologyAnswer,
-};
+use ports::{Assigned, Port, Ports, Topology};
 use wire::flag;
 
 const ENTRY: u64 = 0x656e7472_79202020;
@@ -67,8 +65,8 @@ pub(crate) fn answer(name: u64, nums: &[u64], text: &mut [u8], row: &mut [u64]) 
 }
 
 // LINK 0 is none.
-fn link(x: u16) -> Link {
-    if x == 0 { Link::Free } else { Link::To(x) }
+fn link(x: u16) -> Option<u16> {
+    if x == 0 { None } else { Some(x) }
 }
 
 // The port with the time and the link that stand behind the number at i.
@@ -100,10 +98,10 @@ fn ports(nums: &[u64]) -> Ports {
     ])
 }
 
-fn link_number(l: Link) -> u64 {
+fn link_number(l: Option<u16>) -> u64 {
     match l {
-        Link::Free => 0,
-        Link::To(x) => x as u64,
+        None => 0,
+        Some(x) => x as u64,
     }
 }
 
@@ -122,19 +120,19 @@ fn with_ports(r: Reply, row: &mut [u64], p: Ports) -> Reply {
     with_port(r1, row, a[3])
 }
 
-fn of_port(row: &mut [u64], r: PortAnswer) -> Reply {
+fn of_port(row: &mut [u64], r: Result<Option<u8>, Refusal>) -> Reply {
     match r {
-        PortAnswer::At(n) => gives_one(row, n as u64),
-        PortAnswer::Absent => absent(),
-        PortAnswer::No(x) => refuses(row, x),
+        Ok(Some(n)) => gives_one(row, n as u64),
+        Ok(None) => absent(),
+        Err(x) => refuses(row, x),
     }
 }
 
-fn of_time(row: &mut [u64], r: TimeAnswer) -> Reply {
+fn of_time(row: &mut [u64], r: Result<Option<u32>, Refusal>) -> Reply {
     match r {
-        TimeAnswer::Time(t) => gives_one(row, t as u64),
-        TimeAnswer::Absent => absent(),
-        TimeAnswer::No(x) => refuses(row, x),
+        Ok(Some(t)) => gives_one(row, t as u64),
+        Ok(None) => absent(),
+        Err(x) => refuses(row, x),
     }
 }
 
@@ -147,10 +145,10 @@ fn topology_number(t: Topology) -> u64 {
     }
 }
 
-fn of_topology(row: &mut [u64], r: TopologyAnswer) -> Reply {
+fn of_topology(row: &mut [u64], r: Result<Topology, Refusal>) -> Reply {
     match r {
-        TopologyAnswer::Is(t) => gives_one(row, topology_number(t)),
-        TopologyAnswer::No(x) => refuses(row, x),
+        Ok(t) => gives_one(row, topology_number(t)),
+        Err(x) => refuses(row, x),
     }
 }
 
@@ -170,9 +168,9 @@ fn times(p: Ports, nums: &[u64], row: &mut [u64]) -> Reply {
     with_ports(gives_row(0), row, q)
 }
 
-fn of_text(row: &mut [u64], r: TextAnswer) -> Reply {
+fn of_text(row: &mut [u64], r: Result<usize, Refusal>) -> Reply {
     match r {
-        TextAnswer::Written(n) => with_slice(gives_row(0), FIRST, n),
-        TextAnswer::No(x) => refuses(row, x),
+        Ok(n) => with_slice(gives_row(0), FIRST, n),
+        Err(x) => refuses(row, x),
     }
 }

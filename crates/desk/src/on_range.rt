@@ -3,8 +3,8 @@ use crate::numbers::{chunk, long, word};
 use crate::reply::{
     FIRST, Reply, SECOND, gives, gives_one, gives_row, refuses, unreadable, with_record, with_slice,
 };
-use eeprom::{Chunk, Exact, ExactRead, Pos, Range, RangeAnswer, Reading};
-use held::{ByteRead, ByteStep, CountStep, Counted, byte_in, write_in};
+use eeprom::{Chunk, ExactRead, Pos, Range};
+use held::{ByteStep, CountStep, byte_in, write_in};
 use refusal::Refusal;
 
 const CRC: u64 = 0x63726320_20202020;
@@ -67,13 +67,13 @@ fn range(nums: &[u64], i: u8) -> Range {
     }
 }
 
-pub(crate) fn of_range(row: &mut [u64], r: RangeAnswer) -> Reply {
+pub(crate) fn of_range(row: &mut [u64], r: Result<Range, Refusal>) -> Reply {
     match r {
-        RangeAnswer::Made(g) => {
+        Ok(g) => {
             let xs = [g.byte_pos as u64, g.end as u64];
             gives(row, &xs)
         }
-        RangeAnswer::No(x) => refuses(row, x),
+        Err(x) => refuses(row, x),
     }
 }
 
@@ -97,8 +97,8 @@ fn refuses_range(row: &mut [u64], x: Refusal, g: Range) -> Reply {
 
 fn skip(g: Range, n: u16, row: &mut [u64]) -> Reply {
     match g.skip_ahead_bytes(n) {
-        RangeAnswer::Made(after) => gives_range(row, after),
-        RangeAnswer::No(x) => refuses_range(row, x, g),
+        Ok(after) => gives_range(row, after),
+        Err(x) => refuses_range(row, x, g),
     }
 }
 
@@ -109,8 +109,8 @@ fn of_byte(row: &mut [u64], s: ByteStep, end: Pos) -> Reply {
         end,
     };
     match answer {
-        ByteRead::Byte(b) => one_and_range(row, b as u64, after),
-        ByteRead::No(x) => refuses_range(row, x, after),
+        Ok(b) => one_and_range(row, b as u64, after),
+        Err(x) => refuses_range(row, x, after),
     }
 }
 
@@ -118,10 +118,10 @@ fn byte(image: &[u8], chunk: Chunk, g: Range, row: &mut [u64]) -> Reply {
     of_byte(row, byte_in(image, g.byte_pos, g.end, chunk), g.end)
 }
 
-fn of_reading(row: &mut [u64], r: Reading, g: Range) -> Reply {
+fn of_reading(row: &mut [u64], r: Result<(Pos, Range), Refusal>, g: Range) -> Reply {
     match r {
-        Reading::Took(n, after) => one_and_range(row, n as u64, after),
-        Reading::No(x) => refuses_range(row, x, g),
+        Ok((n, after)) => one_and_range(row, n as u64, after),
+        Err(x) => refuses_range(row, x, g),
     }
 }
 
@@ -135,8 +135,8 @@ fn of_exact(row: &mut [u64], r: ExactRead) -> Reply {
     let after = r.range;
     let answer = r.answer;
     match answer {
-        Exact::Full => gives_range(row, after),
-        Exact::No(x) => refuses_range(row, x, after),
+        Ok(()) => gives_range(row, after),
+        Err(x) => refuses_range(row, x, after),
     }
 }
 
@@ -153,8 +153,8 @@ fn of_writing(row: &mut [u64], s: CountStep, end: Pos) -> Reply {
         end,
     };
     match answer {
-        Counted::Bytes(n) => one_and_range(row, n as u64, after),
-        Counted::No(x) => refuses_range(row, x, after),
+        Ok(n) => one_and_range(row, n as u64, after),
+        Err(x) => refuses_range(row, x, after),
     }
 }
 

@@ -4,9 +4,7 @@ use crate::on_lists::listed;
 use crate::reply::{Reply, gives, gives_one, refuses, unreadable};
 use clock::{DistributedClock, DistributedClocks, clock_row};
 use eeprom::Chunk;
-use setup::{
-    BootstrapAnswer, ChecksumAnswer, PdiAnswer, VersionAnswer, bootstrap_row, checksum_row, pdi_row,
-};
+use setup::{bootstrap_row, checksum_row, pdi_row};
 use wire::lesser;
 
 const PDI: u64 = 0x70646920_20202020;
@@ -42,40 +40,40 @@ pub(crate) fn answer(name: u64, nums: &[u64], image: &[u8], row: &mut [u64]) -> 
     }
 }
 
-fn of_pdi(row: &mut [u64], r: PdiAnswer) -> Reply {
+fn of_pdi(row: &mut [u64], r: Result<PdiControl, Refusal>) -> Reply {
     match r {
-        PdiAnswer::Is(p) => {
+        Ok(p) => {
             let xs = pdi_row(p);
             gives(row, &xs)
         }
-        PdiAnswer::No(x) => refuses(row, x),
+        Err(x) => refuses(row, x),
     }
 }
 
-fn of_bootstrap(row: &mut [u64], r: BootstrapAnswer) -> Reply {
+fn of_bootstrap(row: &mut [u64], r: Result<BootstrapMailbox, Refusal>) -> Reply {
     match r {
-        BootstrapAnswer::Is(m) => {
+        Ok(m) => {
             let xs = bootstrap_row(m);
             gives(row, &xs)
         }
-        BootstrapAnswer::No(x) => refuses(row, x),
+        Err(x) => refuses(row, x),
     }
 }
 
-fn of_version(row: &mut [u64], r: VersionAnswer) -> Reply {
+fn of_version(row: &mut [u64], r: Result<u16, Refusal>) -> Reply {
     match r {
-        VersionAnswer::Version(n) => gives_one(row, n as u64),
-        VersionAnswer::No(x) => refuses(row, x),
+        Ok(n) => gives_one(row, n as u64),
+        Err(x) => refuses(row, x),
     }
 }
 
-fn of_checksum(row: &mut [u64], r: ChecksumAnswer) -> Reply {
+fn of_checksum(row: &mut [u64], r: Result<Checksums, Refusal>) -> Reply {
     match r {
-        ChecksumAnswer::Is(c) => {
+        Ok(c) => {
             let xs = checksum_row(c);
             gives(row, &xs)
         }
-        ChecksumAnswer::No(x) => refuses(row, x),
+        Err(x) => refuses(row, x),
     }
 }
 

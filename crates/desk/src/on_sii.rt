@@ -3,12 +3,8 @@ use crate::numbers::{chunk, word};
 use crate::reply::{
     FIRST, Reply, absent, gives, gives_one, gives_row, refuses, unreadable, with_slice,
 };
-use category::{Found, InsideAnswer};
 use eeprom::Chunk;
-use sii::{
-    AliasAnswer, AliasSet, GeneralAnswer, IdentityAnswer, MailboxAnswer, PortsAnswer, SizeAnswer,
-    WordAnswer, general_row, has_mailbox, identity_row, mailbox_row, ports_row,
-};
+use sii::{general_row, has_mailbox, identity_row, mailbox_row, ports_row};
 use wire::flag;
 
 const CATEGORY: u64 = 0x63617465_676f7279;
@@ -74,42 +70,42 @@ pub(crate) fn answer(name: u64, nums: &[u64], image: &mut [u8], row: &mut [u64])
     }
 }
 
-fn of_found(row: &mut [u64], r: Found) -> Reply {
+fn of_found(row: &mut [u64], r: Result<Option<Range>, Refusal>) -> Reply {
     match r {
-        Found::At(g) => {
+        Ok(Some(g)) => {
             let xs = [g.byte_pos as u64, g.end as u64];
             gives(row, &xs)
         }
-        Found::Absent => absent(),
-        Found::No(x) => refuses(row, x),
+        Ok(None) => absent(),
+        Err(x) => refuses(row, x),
     }
 }
 
-fn of_inside(row: &mut [u64], r: InsideAnswer) -> Reply {
+fn of_inside(row: &mut [u64], r: Result<bool, Refusal>) -> Reply {
     match r {
-        InsideAnswer::Inside(b) => gives_one(row, flag(b)),
-        InsideAnswer::No(x) => refuses(row, x),
+        Ok(b) => gives_one(row, flag(b)),
+        Err(x) => refuses(row, x),
     }
 }
 
-fn of_alias(row: &mut [u64], r: AliasAnswer) -> Reply {
+fn of_alias(row: &mut [u64], r: Result<u16, Refusal>) -> Reply {
     match r {
-        AliasAnswer::Alias(a) => gives_one(row, a as u64),
-        AliasAnswer::No(x) => refuses(row, x),
+        Ok(a) => gives_one(row, a as u64),
+        Err(x) => refuses(row, x),
     }
 }
 
-fn of_size(row: &mut [u64], r: SizeAnswer) -> Reply {
+fn of_size(row: &mut [u64], r: Result<u32, Refusal>) -> Reply {
     match r {
-        SizeAnswer::Bytes(n) => gives_one(row, n as u64),
-        SizeAnswer::No(x) => refuses(row, x),
+        Ok(n) => gives_one(row, n as u64),
+        Err(x) => refuses(row, x),
     }
 }
 
-fn of_set(row: &mut [u64], r: AliasSet) -> Reply {
+fn of_set(row: &mut [u64], r: Result<(), Refusal>) -> Reply {
     match r {
-        AliasSet::Done => gives_row(0),
-        AliasSet::No(x) => refuses(row, x),
+        Ok(()) => gives_row(0),
+        Err(x) => refuses(row, x),
     }
 }
 
@@ -119,56 +115,56 @@ fn set_alias(image: &mut [u8], alias: u16, row: &mut [u64]) -> Reply {
     with_slice(of_set(row, r), FIRST, k)
 }
 
-fn of_identity(row: &mut [u64], r: IdentityAnswer) -> Reply {
+fn of_identity(row: &mut [u64], r: Result<SubDeviceIdentity, Refusal>) -> Reply {
     match r {
-        IdentityAnswer::Is(d) => {
+        Ok(d) => {
             let xs = identity_row(d);
             gives(row, &xs)
         }
-        IdentityAnswer::No(x) => refuses(row, x),
+        Err(x) => refuses(row, x),
     }
 }
 
-fn of_mailbox(row: &mut [u64], r: MailboxAnswer) -> Reply {
+fn of_mailbox(row: &mut [u64], r: Result<DefaultMailbox, Refusal>) -> Reply {
     match r {
-        MailboxAnswer::Is(m) => {
+        Ok(m) => {
             let xs = mailbox_row(m);
             gives(row, &xs)
         }
-        MailboxAnswer::No(x) => refuses(row, x),
+        Err(x) => refuses(row, x),
     }
 }
 
-fn of_has_mailbox(row: &mut [u64], r: MailboxAnswer) -> Reply {
+fn of_has_mailbox(row: &mut [u64], r: Result<DefaultMailbox, Refusal>) -> Reply {
     match r {
-        MailboxAnswer::Is(m) => gives_one(row, flag(has_mailbox(m))),
-        MailboxAnswer::No(x) => refuses(row, x),
+        Ok(m) => gives_one(row, flag(has_mailbox(m))),
+        Err(x) => refuses(row, x),
     }
 }
 
-fn of_ports(row: &mut [u64], r: PortsAnswer) -> Reply {
+fn of_ports(row: &mut [u64], r: Result<PhysicalPorts, Refusal>) -> Reply {
     match r {
-        PortsAnswer::Is(p) => {
+        Ok(p) => {
             let xs = ports_row(p);
             gives(row, &xs)
         }
-        PortsAnswer::No(x) => refuses(row, x),
+        Err(x) => refuses(row, x),
     }
 }
 
-fn of_word(row: &mut [u64], r: WordAnswer) -> Reply {
+fn of_word(row: &mut [u64], r: Result<u16, Refusal>) -> Reply {
     match r {
-        WordAnswer::Word(n) => gives_one(row, n as u64),
-        WordAnswer::No(x) => refuses(row, x),
+        Ok(n) => gives_one(row, n as u64),
+        Err(x) => refuses(row, x),
     }
 }
 
-fn of_general(row: &mut [u64], r: GeneralAnswer) -> Reply {
+fn of_general(row: &mut [u64], r: Result<SiiGeneral, Refusal>) -> Reply {
     match r {
-        GeneralAnswer::Is(g) => {
+        Ok(g) => {
             let xs = general_row(g);
             gives(row, &xs)
         }
-        GeneralAnswer::No(x) => refuses(row, x),
+        Err(x) => refuses(row, x),
     }
 }

@@ -3,7 +3,7 @@ use crate::numbers::{at, byte, long, put, put_all};
 use crate::on_frames::state;
 use crate::reply::{FIRST, Reply, gives_row, refuses, with_record, with_slice};
 use created_frame::{Builder, state_row};
-use spread::{SpreadAnswer, Spreading};
+use spread::Spreading;
 use wire::lesser;
 
 const SPREAD: u64 = 0x73707265_61642020;
@@ -36,11 +36,11 @@ fn of_spreading(row: &mut [u64], r: Spreading) -> Reply {
     let answer = r.answer;
     let states = r.states;
     match answer {
-        SpreadAnswer::Last(n) => {
+        Ok(n) => {
             let k = put(row, 0, n as u64);
             gives_row(put_states(row, k, states, n))
         }
-        SpreadAnswer::No(x) => refuses(row, x),
+        Err(x) => refuses(row, x),
     }
 }
 

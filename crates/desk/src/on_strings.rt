@@ -1,7 +1,6 @@
 // The requests for strings, the device's name and its description.
 use crate::numbers::{byte, chunk};
 use crate::reply::{Reply, SECOND, absent, gives_one, refuses, unreadable, with_slice};
-use strings::StringAnswer;
 
 const STRING: u64 = 0x73747269_6e672020;
 
@@ -19,15 +18,15 @@ pub(crate) fn shape(name: u64) -> u64 {
     }
 }
 
-fn of_string(row: &mut [u64], r: StringAnswer) -> Reply {
+fn of_string(row: &mut [u64], r: Result<Option<u16>, Refusal>) -> Reply {
     match r {
-        StringAnswer::Length(n) => gives_one(row, n as u64),
-        StringAnswer::Absent => absent(),
-        StringAnswer::No(x) => refuses(row, x),
+        Ok(Some(n)) => gives_one(row, n as u64),
+        Ok(None) => absent(),
+        Err(x) => refuses(row, x),
     }
 }
 
-fn asked(name: u64, nums: &[u64], image: &[u8], room: &mut [u8]) -> StringAnswer {
+fn asked(name: u64, nums: &[u64], image: &[u8], room: &mut [u8]) -> Result<Option<u16>, Refusal> {
     match name {
         STRING => strings::find_string(image, chunk(nums, 1), byte(nums, 2), room),
         NAME => strings::device_name(image, chunk(nums, 1), room),

@@ -1,6 +1,6 @@
 // The words of a line: the request's name, and what follows it, read by the request's shape.
 use crate::numbers::{at, put};
-use lines::{HexAnswer, NumberAnswer, word_end};
+use lines::word_end;
 use wire::byte_at;
 
 // A shape has a hex digit for each word, in their order: 1, 2 or 4 for a number of so many bytes, and these.
@@ -70,8 +70,8 @@ pub(crate) fn name(word: &[u8]) -> u64 {
 // A word as a number up to this one.
 fn number(word: &[u8], most: u64) -> u64 {
     match lines::number(word) {
-        NumberAnswer::Is(v) => { if v <= most { v } else { UNREADABLE } }
-        NumberAnswer::Not => UNREADABLE,
+        Some(v) => { if v <= most { v } else { UNREADABLE } }
+        None => UNREADABLE,
     }
 }
 
@@ -86,8 +86,8 @@ fn chunk(v: u64) -> u64 {
 // A word as bytes, put into the room: how many.
 fn bytes(word: &[u8], room: &mut [u8]) -> u64 {
     match lines::hex(word, room) {
-        HexAnswer::Length(n) => n as u64,
-        HexAnswer::Not => UNREADABLE,
+        Some(n) => n as u64,
+        None => UNREADABLE,
     }
 }
 

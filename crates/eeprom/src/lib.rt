@@ -30,56 +30,17 @@ pub struct Range {
     pub end: Pos,
 }
 
-// A range that was asked for.
-#[derive(Clone, Copy)]
-pub enum RangeAnswer {
-    Made(Range),
-    No(Refusal),
-}
-
-// A byte, and the range after it.
-#[derive(Clone, Copy)]
-pub enum ByteAnswer {
-    Byte(u8, Range),
-    No(Refusal),
-}
-
-// How many bytes were read, and the range after them.
-#[derive(Clone, Copy)]
-pub enum Reading {
-    Took(Pos, Range),
-    No(Refusal),
-}
-
-// What an exact read answers.
-#[derive(Clone, Copy)]
-pub enum Exact {
-    // The whole buffer was read into.
-    Full,
-    // 14, then 2: the range has less.
-    No(Refusal),
-}
-
 // An exact read's answer, and the range as it then stands.
 #[derive(Clone, Copy)]
 pub struct ExactRead {
-    pub answer: Exact,
+    pub answer: Result<(), Refusal>,
     pub range: Range,
-}
-
-// What a write answers.
-#[derive(Clone, Copy)]
-pub enum Writing {
-    // How many bytes, the padding counted.
-    Written(Pos),
-    // 14; then, word by word, 1: the next position would pass the limit; 7: the word is not wholly in the image.
-    No(Refusal),
 }
 
 // A write's answer, and the range as it then stands.
 #[derive(Clone, Copy)]
 pub struct WordsWritten {
-    pub answer: Writing,
+    pub answer: Result<Pos, Refusal>,
     pub range: Range,
 }
 
@@ -164,30 +125,30 @@ pub fn long_of(image: &[u8], chunk: Chunk, i: u32) -> u32
 
 impl Range {
     // The range from a word on, for a number of words.
-    pub fn new(start_word: u16, len_words: u16) -> RangeAnswer
+    pub fn new(start_word: u16, len_words: u16) -> Result<Range, Refusal>
         ensures { said_range result ≡ new_said start_word len_words }
     {
         let from = 2 * (start_word as Pos);
         let end = from + 2 * (len_words as Pos);
         if end <= POS_MOST {
-            RangeAnswer::Made(Range {
+            Ok(Range {
                 byte_pos: from,
                 end,
             })
         } else {
-            RangeAnswer::No(Refusal::Address)
+            Err(Refusal::Address)
         }
     }
 
     // The range from a word on, for a length in bytes, of which an odd one is dropped.
-    pub fn start_at(word_addr: u16, len_bytes: u16) -> RangeAnswer
+    pub fn start_at(word_addr: u16, len_bytes: u16) -> Result<Range, Refusal>
         ensures { said_range result ≡ start_said word_addr len_bytes }
     {
         Range::new(word_addr, len_bytes / 2)
     }
 
     // The range some bytes on, which must be before its end.
-    pub fn skip_ahead_bytes(self, skip: u16) -> RangeAnswer
+    pub fn skip_ahead_bytes(self, skip: u16) -> Result<Range, Refusal>
         ensures { said_range result ≡ skip_said self.byte_pos self.end skip }
     {
         let pos = self.byte_pos;
@@ -195,20 +156,20 @@ impl Range {
         if in_bounds(pos, end) {
             let to = (pos as u64) + (skip as u64);
             if to < (end as u64) {
-                RangeAnswer::Made(Range {
+                Ok(Range {
                     byte_pos: to as Pos,
                     end,
                 })
             } else {
-                RangeAnswer::No(Refusal::Overrun)
+                Err(Refusal::Overrun)
             }
         } else {
-            RangeAnswer::No(Refusal::BadArgument)
+            Err(Refusal::BadArgument)
         }
     }
 
     // The byte at the position, and the range after it. Refuses 14, then 2 at the end and past it, then 1, which is never met.
-    pub fn read_byte(self, image: &[u8], chunk: Chunk) -> ByteAnswer
+    pub fn read_byte(self, image: &[u8], chunk: Chunk) -> Result<(u8, Range), Refusal>
         ensures { said_byte result ≡ byte_said image.now self.byte_pos self.end }
     {
         let pos = self.byte_pos;
@@ -216,12 +177,12 @@ impl Range {
         if sound(image, pos, end) {
             byte_in(image, chunk, pos, end)
         } else {
-            ByteAnswer::No(Refusal::BadArgument)
+            Err(Refusal::BadArgument)
         }
     }
 
     // Reads into buf what there is of the range.
-    pub fn read(self, image: &[u8], chunk: Chunk, buf: &mut [u8]) -> Reading
+    pub fn read(self, image: &[u8], chunk: Chunk, buf: &mut [u8]) -> Result<(Pos, Range), Refusal>
         ensures said { said_reading result ≡ read_said image.now self.byte_pos self.end (length buf.old) }
         ensures lent { buf.new ≡ read_buf image.now self.byte_pos self.end buf.old }
     {
@@ -230,15 +191,15 @@ impl Range {
         if sound(image, pos, end) {
             let n = lesser(buf.len(), left(pos, end));
             read_chunks(image, chunk, pos, n, buf);
-            Reading::Took(
+            Ok((
                 n as Pos,
                 Range {
                     byte_pos: pos + (n as Pos),
                     end,
                 },
-            )
+            ))
         } else {
-            Reading::No(Refusal::BadArgument)
+            Err(Refusal::BadArgument)
         }
     }
 
@@ -250,12 +211,12 @@ impl Range {
     {
         let k = buf.len();
         match self.read(image, chunk, buf) {
-            Reading::Took(n, after) => ExactRead {
+            Ok((n, after)) => ExactRead {
                 answer: all_of(n as usize, k),
                 range: after,
             },
-            Reading::No(x) => ExactRead {
-                answer: Exact::No(x),
+            Err(x) => ExactRead {
+                answer: Err(x),
                 range: self,
             },
         }
@@ -273,7 +234,7 @@ impl Range {
             write_words(image, pos, end, bytes)
         } else {
             WordsWritten {
-                answer: Writing::No(Refusal::BadArgument),
+                answer: Err(Refusal::BadArgument),
                 range: self,
             }
         }
@@ -303,35 +264,31 @@ fn sound(image: &[u8], pos: Pos, end: Pos) -> bool
 }
 
 // The byte at a position, which must lie before the end (2), and below the largest position (1). No end lies above that, so 1 is never met (`byte_never_1`).
-fn byte_in(image: &[u8], chunk: Chunk, pos: Pos, end: Pos) -> ByteAnswer
+fn byte_in(image: &[u8], chunk: Chunk, pos: Pos, end: Pos) -> Result<(u8, Range), Refusal>
     ensures { said_byte result ≡ byte_in image.now pos end }
 {
     if pos >= end {
-        return ByteAnswer::No(Refusal::Overrun);
+        return Err(Refusal::Overrun);
     }
     if pos < POS_MOST {
         let next = pos + 1;
-        ByteAnswer::Byte(
+        Ok((
             byte_of(image, chunk, pos),
             Range {
                 byte_pos: next,
                 end,
             },
-        )
+        ))
     } else {
-        ByteAnswer::No(Refusal::Address)
+        Err(Refusal::Address)
     }
 }
 
 // Whether n bytes are all of k.
-fn all_of(n: usize, k: usize) -> Exact
+fn all_of(n: usize, k: usize) -> Result<(), Refusal>
     ensures { said_exact result ≡ all_said n k }
 {
-    if n < k {
-        Exact::No(Refusal::Overrun)
-    } else {
-        Exact::Full
-    }
+    if n < k { Err(Refusal::Overrun) } else { Ok(()) }
 }
 
 // How many bytes are left of a range.
@@ -392,7 +349,7 @@ fn write_words(image: &mut [u8], pos: Pos, end: Pos, bytes: &[u8]) -> WordsWritt
     let mut n = 0;
     while at < end && n < bytes.len() {
         if POS_MOST < at + 2 {
-            return write_done(Writing::No(Refusal::Address), at, end);
+            return write_done(Err(Refusal::Address), at, end);
         }
         let start_word = (at / 2) as usize;
         if 2 * start_word + 2 <= image.len() {
@@ -400,14 +357,14 @@ fn write_words(image: &mut [u8], pos: Pos, end: Pos, bytes: &[u8]) -> WordsWritt
             at += 2;
             n += 2;
         } else {
-            return write_done(Writing::No(Refusal::NotWritable), at, end);
+            return write_done(Err(Refusal::NotWritable), at, end);
         }
     }
-    write_done(Writing::Written(n as Pos), at, end)
+    write_done(Ok(n as Pos), at, end)
 }
 
 // A write's answer, and where it stands after that.
-fn write_done(answer: Writing, byte_pos: Pos, end: Pos) -> WordsWritten
+fn write_done(answer: Result<Pos, Refusal>, byte_pos: Pos, end: Pos) -> WordsWritten
     ensures { result ≡ record { answer = answer; range = record { byte_pos = byte_pos; end = end } } }
 {
     WordsWritten {

@@ -6,10 +6,7 @@ ghost use Rattle.created_frame.specs.Answers.{handle_values, state_values, said_
 ghost use Rattle.export.specs.Told.{code_of, row_over, state_of, state_over, bytes_over, header_told};
 
 use crate::row::{ABSENT, GIVES, given, put, refused};
-use created_frame::{
-    Builder, CanPush, Opened, PduResponseHandle, Push, Pushed, Rest, RestPush, handle_row,
-    state_row,
-};
+use created_frame::{Builder, PduResponseHandle, Push, RestPush, handle_row, state_row};
 use pdu::{FRAME_HEADER_BYTES, HeaderAnswer};
 use refusal::Refusal;
 use wire::flag;
@@ -24,16 +21,16 @@ pub fn morel_open(area: &mut [u8], out: &mut [u64]) -> u8
     of_opened(out, r)
 }
 
-fn of_opened(out: &mut [u64], r: Opened) -> u8
+fn of_opened(out: &mut [u64], r: Result<Builder, Refusal>) -> u8
     ensures code { result ≡ code_of (said_opened r) }
     ensures lent { out.new ≡ row_over out.old (said_opened r) }
 {
     match r {
-        Opened::Ready(b) => {
+        Ok(b) => {
             let xs = state_row(b);
             given(out, &xs)
         }
-        Opened::No(x) => refused(out, x),
+        Err(x) => refused(out, x),
     }
 }
 
@@ -71,12 +68,12 @@ fn of_push(out: &mut [u64], r: Push) -> u8
     let b = r.builder;
     let next = r.next;
     match answer {
-        Pushed::Done(h) => {
+        Ok(h) => {
             let xs = pushed_row(b, next, h);
             put(out, 0, &xs);
             GIVES
         }
-        Pushed::No(x) => {
+        Err(x) => {
             let xs = kept_row(b, next);
             put(out, 0, &xs);
             refusal::number(x)
@@ -134,17 +131,17 @@ fn of_rest(out: &mut [u64], r: RestPush) -> u8
     let b = r.builder;
     let next = r.next;
     match answer {
-        Rest::Done { taken, pdu } => {
+        Ok(Some((taken, pdu))) => {
             let xs = taken_row(b, next, taken, pdu);
             put(out, 0, &xs);
             GIVES
         }
-        Rest::Absent => {
+        Ok(None) => {
             let xs = kept_row(b, next);
             put(out, 0, &xs);
             ABSENT
         }
-        Rest::No(x) => {
+        Err(x) => {
             let xs = kept_row(b, next);
             put(out, 0, &xs);
             refusal::number(x)
@@ -185,11 +182,11 @@ pub fn morel_can_push_pdu_payload(
 {
     let b = Builder { used, count, last };
     match created_frame::can_push_pdu_payload(size, b, len) {
-        CanPush::Room(t) => {
+        Ok(t) => {
             let xs = [flag(t)];
             given(out, &xs)
         }
-        CanPush::No(x) => refused(out, x),
+        Err(x) => refused(out, x),
     }
 }
 

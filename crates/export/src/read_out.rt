@@ -8,12 +8,8 @@ ghost use Rattle.sii.specs.General.{general_said};
 ghost use Rattle.export.specs.Told.{code_of, row_over};
 
 use crate::row::{ABSENT, GIVES, given, refused};
-use category::{Found, InsideAnswer};
 use eeprom::Chunk;
-use sii::{
-    AliasAnswer, AliasSet, GeneralAnswer, IdentityAnswer, MailboxAnswer, SizeAnswer, general_row,
-    identity_row, mailbox_row,
-};
+use sii::{general_row, identity_row, mailbox_row};
 use wire::flag;
 
 // The CRC-8 of the bytes.
@@ -29,11 +25,11 @@ pub fn morel_station_alias(image: &[u8], out: &mut [u64]) -> u8
     ensures lent { out.new ≡ row_over out.old (alias_said image.now) }
 {
     match sii::station_alias(image, Chunk::Eight) {
-        AliasAnswer::Alias(a) => {
+        Ok(a) => {
             let xs = [a as u64];
             given(out, &xs)
         }
-        AliasAnswer::No(x) => refused(out, x),
+        Err(x) => refused(out, x),
     }
 }
 
@@ -43,8 +39,8 @@ pub fn morel_set_station_alias(image: &mut [u8], alias: u16) -> u8
     ensures lent { image.new ≡ set_image image.old alias }
 {
     match sii::set_station_alias(image, alias) {
-        AliasSet::Done => GIVES,
-        AliasSet::No(x) => refusal::number(x),
+        Ok(()) => GIVES,
+        Err(x) => refusal::number(x),
     }
 }
 
@@ -54,11 +50,11 @@ pub fn morel_identity(image: &[u8], out: &mut [u64]) -> u8
     ensures lent { out.new ≡ row_over out.old (identity_said image.now) }
 {
     match sii::identity(image, Chunk::Eight) {
-        IdentityAnswer::Is(d) => {
+        Ok(d) => {
             let xs = identity_row(d);
             given(out, &xs)
         }
-        IdentityAnswer::No(x) => refused(out, x),
+        Err(x) => refused(out, x),
     }
 }
 
@@ -68,11 +64,11 @@ pub fn morel_mailbox_config(image: &[u8], out: &mut [u64]) -> u8
     ensures lent { out.new ≡ row_over out.old (mailbox_said image.now) }
 {
     match sii::mailbox_config(image, Chunk::Eight) {
-        MailboxAnswer::Is(m) => {
+        Ok(m) => {
             let xs = mailbox_row(m);
             given(out, &xs)
         }
-        MailboxAnswer::No(x) => refused(out, x),
+        Err(x) => refused(out, x),
     }
 }
 
@@ -82,11 +78,11 @@ pub fn morel_size(image: &[u8], out: &mut [u64]) -> u8
     ensures lent { out.new ≡ row_over out.old (size_said image.now) }
 {
     match sii::size(image, Chunk::Eight) {
-        SizeAnswer::Bytes(n) => {
+        Ok(n) => {
             let xs = [n as u64];
             given(out, &xs)
         }
-        SizeAnswer::No(x) => refused(out, x),
+        Err(x) => refused(out, x),
     }
 }
 
@@ -96,12 +92,12 @@ pub fn morel_category(image: &[u8], number: u16, out: &mut [u64]) -> u8
     ensures lent { out.new ≡ row_over out.old (category_said image.now number) }
 {
     match category::category(image, Chunk::Eight, number) {
-        Found::At(g) => {
+        Ok(Some(g)) => {
             let xs = [g.byte_pos as u64, g.end as u64];
             given(out, &xs)
         }
-        Found::Absent => ABSENT,
-        Found::No(x) => refused(out, x),
+        Ok(None) => ABSENT,
+        Err(x) => refused(out, x),
     }
 }
 
@@ -111,11 +107,11 @@ pub fn morel_category_inside(image: &[u8], number: u16, out: &mut [u64]) -> u8
     ensures lent { out.new ≡ row_over out.old (inside_said image.now number) }
 {
     match category::category_inside(image, Chunk::Eight, number) {
-        InsideAnswer::Inside(t) => {
+        Ok(t) => {
             let xs = [flag(t)];
             given(out, &xs)
         }
-        InsideAnswer::No(x) => refused(out, x),
+        Err(x) => refused(out, x),
     }
 }
 
@@ -125,10 +121,10 @@ pub fn morel_general(image: &[u8], out: &mut [u64]) -> u8
     ensures lent { out.new ≡ row_over out.old (general_said image.now) }
 {
     match sii::general(image, Chunk::Eight) {
-        GeneralAnswer::Is(g) => {
+        Ok(g) => {
             let xs = general_row(g);
             given(out, &xs)
         }
-        GeneralAnswer::No(x) => refused(out, x),
+        Err(x) => refused(out, x),
     }
 }

@@ -9,7 +9,7 @@ ghost use Rattle.export.specs.Told.{code_of, state_of, run_over};
 
 use crate::row::{GIVES, put};
 use created_frame::{Builder, state_row};
-use spread::{SpreadAnswer, Spreading, spread};
+use spread::{Spreading, spread};
 
 // How many numbers a state takes of the row.
 const STATE_NUMBERS: usize = 3;
@@ -41,21 +41,21 @@ pub fn morel_spread(
     code_of(answer)
 }
 
-fn last_of(answer: SpreadAnswer) -> usize
+fn last_of(answer: Result<usize, Refusal>) -> usize
     ensures { result ≡ first_of (said_last answer) }
 {
     match answer {
-        SpreadAnswer::Last(k) => k,
-        SpreadAnswer::No(_) => 0,
+        Ok(k) => k,
+        Err(_) => 0,
     }
 }
 
-fn code_of(answer: SpreadAnswer) -> u8
+fn code_of(answer: Result<usize, Refusal>) -> u8
     ensures { result ≡ code_of (said_last answer) }
 {
     match answer {
-        SpreadAnswer::Last(_) => GIVES,
-        SpreadAnswer::No(x) => refusal::number(x),
+        Ok(_) => GIVES,
+        Err(x) => refusal::number(x),
     }
 }
 

@@ -7,19 +7,18 @@ ghost use Rattle.export.specs.Told.{code_of, row_over};
 
 use crate::row::{ABSENT, given, refused};
 use eeprom::Chunk;
-use strings::StringAnswer;
 
-fn of_string(out: &mut [u64], r: StringAnswer) -> u8
+fn of_string(out: &mut [u64], r: Result<Option<u16>, Refusal>) -> u8
     ensures code { result ≡ code_of (said_string r) }
     ensures lent { out.new ≡ row_over out.old (said_string r) }
 {
     match r {
-        StringAnswer::Length(n) => {
+        Ok(Some(n)) => {
             let xs = [n as u64];
             given(out, &xs)
         }
-        StringAnswer::Absent => ABSENT,
-        StringAnswer::No(x) => refused(out, x),
+        Ok(None) => ABSENT,
+        Err(x) => refused(out, x),
     }
 }
 

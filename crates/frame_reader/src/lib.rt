@@ -33,13 +33,6 @@ pub struct FrameRead {
     pub pdus: [PduFields; PDUS_MOST],
 }
 
-// What the cycle finds: the number of PDUs, or no frame.
-#[derive(Clone, Copy)]
-enum Walked {
-    Good(usize),
-    Bad,
-}
-
 // The PDUs of a frame: each one's fields and its payload's place, in order.
 pub fn read_frame(s: &[u8]) -> FrameRead
     ensures { (said_frame result.answer ≡ read_said (read_of s.now)) × (result.count ≡ length (pdus_of (read_of s.now))) × (result.pdus ≡ padded (pdus_of (read_of s.now))) }
@@ -67,19 +60,19 @@ pub fn read_frame(s: &[u8]) -> FrameRead
         &mut places,
     );
     match found {
-        Walked::Bad => refused(),
-        Walked::Good(m) => listed(s, &places, m),
+        None => refused(),
+        Some(m) => listed(s, &places, m),
     }
 }
 
 // The PDUs from `at` to `end`, the k-th first: each one's start goes into `out`, unless there is a fault behind it.
 #[cycle(body_header)]
-fn header(s: &[u8], at: usize, end: usize, k: usize, out: &mut [u16]) -> Walked
+fn header(s: &[u8], at: usize, end: usize, k: usize, out: &mut [u16]) -> Option<usize>
     requires { (at ≤ end) × (end ≤ area_most + frame_header_bytes) × (pdu_overhead * k + frame_header_bytes ≤ at) × (length out.old ≡ pdus_most) }
     ensures { (f : ℕ) → end - at ≤ f → (result ≡ walked_of k (places_at f s.now at end)) × (out.new ≡ placed k (places_at f s.now at end) out.old) }
 {
     if end - at < PDU_OVERHEAD_BYTES {
-        return Walked::Bad;
+        return None;
     }
     let flags = word_at(s, at + FLAGS_AT);
     body(s, at, end, k, flags, out)
@@ -87,7 +80,7 @@ fn header(s: &[u8], at: usize, end: usize, k: usize, out: &mut [u16]) -> Walked
 
 // .. where the PDU at `from` has these flags.
 #[cycle(body_header)]
-fn body(s: &[u8], from: usize, end: usize, k: usize, flags: u16, out: &mut [u16]) -> Walked
+fn body(s: &[u8], from: usize, end: usize, k: usize, flags: u16, out: &mut [u16]) -> Option<usize>
     requires { (from + pdu_overhead ≤ end) × (end ≤ area_most + frame_header_bytes) × (pdu_overhead * k + frame_header_bytes ≤ from) × (length out.old ≡ pdus_most) }
     ensures { (f : ℕ) → end - (from + header_bytes) ≤ f → (result ≡ walked_of k (body_at (λ next. places_at f s.now next end) from end flags)) × (out.new ≡ placed k (body_at (λ next. places_at f s.now next end) from end flags) out.old) }
 {
@@ -95,18 +88,18 @@ fn body(s: &[u8], from: usize, end: usize, k: usize, flags: u16, out: &mut [u16]
     if ends_rightly(from, end, flags) {
         if next == end {
             out[k] = from as u16;
-            return Walked::Good(k + 1);
+            return Some(k + 1);
         }
         let rest = header(s, next, end, k + 1, out);
         match rest {
-            Walked::Bad => rest,
-            Walked::Good(_) => {
+            None => rest,
+            Some(_) => {
                 out[k] = from as u16;
                 rest
             }
         }
     } else {
-        Walked::Bad
+        None
     }
 }
 

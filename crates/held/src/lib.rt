@@ -11,7 +11,7 @@ ghost use Rattle.held.specs.Range.{alone, stands, range_on, range_mut_on, after,
 ghost use Rattle.held.specs.Answers.{said_outcome, said_byte_read, said_counted};
 
 use eeprom::{Chunk, Pos};
-use ports::{Assigned, PortAnswer, Ports};
+use ports::{Assigned, Ports};
 use refusal::Refusal;
 use step::{byte_step, exact_step, range_step, read_step, skip_step, write_step};
 
@@ -33,52 +33,31 @@ pub struct EepromRangeMut<'a> {
     pub end: Pos,
 }
 
-// Whether a call was carried out.
-#[derive(Clone, Copy)]
-pub enum Outcome {
-    Done,
-    No(Refusal),
-}
-
-// A byte that was read.
-#[derive(Clone, Copy)]
-pub enum ByteRead {
-    Byte(u8),
-    No(Refusal),
-}
-
 // A byte, and the position after it.
 #[derive(Clone, Copy)]
 pub struct ByteStep {
-    pub answer: ByteRead,
+    pub answer: Result<u8, Refusal>,
     pub byte_pos: Pos,
-}
-
-// How many bytes.
-#[derive(Clone, Copy)]
-pub enum Counted {
-    Bytes(Pos),
-    No(Refusal),
 }
 
 // A count of bytes, and the position after them.
 #[derive(Clone, Copy)]
 pub struct CountStep {
-    pub answer: Counted,
+    pub answer: Result<Pos, Refusal>,
     pub byte_pos: Pos,
 }
 
 // A range that was asked for; refused, it is a closed one, on which every later call is 14.
 #[derive(Clone, Copy)]
 pub struct Opened<'a> {
-    pub answer: Outcome,
+    pub answer: Result<(), Refusal>,
     pub range: EepromRange<'a>,
 }
 
 // The same of an image that is lent to be written.
 #[derive(Drop)]
 pub struct OpenedMut<'a> {
-    pub answer: Outcome,
+    pub answer: Result<(), Refusal>,
     pub range: EepromRangeMut<'a>,
 }
 
@@ -100,7 +79,7 @@ impl<'a> EepromRange<'a> {
     }
 
     // Moves the position on, to before the end. Refuses 14, then 2.
-    pub fn skip_ahead_bytes(&mut self, skip: u16) -> Outcome
+    pub fn skip_ahead_bytes(&mut self, skip: u16) -> Result<(), Refusal>
         ensures { (said_outcome result ≡ alone (skip_of self.old skip)) × (self.new ≡ after self.old (skip_of self.old skip)) }
     {
         let s = skip_step(self.byte_pos, self.end, skip);
@@ -109,7 +88,7 @@ impl<'a> EepromRange<'a> {
     }
 
     // The byte at the position. Refuses 14, then 2 at the end and past it, then 1, which is never met.
-    pub fn read_byte(&mut self, chunk: Chunk) -> ByteRead
+    pub fn read_byte(&mut self, chunk: Chunk) -> Result<u8, Refusal>
         ensures { (said_byte_read result ≡ alone (byte_of self.old)) × (self.new ≡ after self.old (byte_of self.old)) }
     {
         let s = byte_step(self.image, self.byte_pos, self.end, chunk);
@@ -118,7 +97,7 @@ impl<'a> EepromRange<'a> {
     }
 
     // Reads into buf what there is of the range. Refuses 14.
-    pub fn read(&mut self, chunk: Chunk, buf: &mut [u8]) -> Counted
+    pub fn read(&mut self, chunk: Chunk, buf: &mut [u8]) -> Result<Pos, Refusal>
         ensures { (said_counted result ≡ alone (read_of self.old buf.old)) × ((self.new ≡ after self.old (read_of self.old buf.old)) × (buf.new ≡ read_into self.old buf.old)) }
     {
         let s = read_step(self.image, self.byte_pos, self.end, chunk, buf);
@@ -127,7 +106,7 @@ impl<'a> EepromRange<'a> {
     }
 
     // Reads into the whole of buf; where the range has less, into as much of it. Refuses 14, then 2.
-    pub fn read_exact(&mut self, chunk: Chunk, buf: &mut [u8]) -> Outcome
+    pub fn read_exact(&mut self, chunk: Chunk, buf: &mut [u8]) -> Result<(), Refusal>
         ensures { (said_outcome result ≡ exact_of self.old buf.old) × ((self.new ≡ after_exact self.old buf.old) × (buf.new ≡ exact_into self.old buf.old)) }
     {
         let s = exact_step(self.image, self.byte_pos, self.end, chunk, buf);
@@ -154,7 +133,7 @@ impl<'a> EepromRangeMut<'a> {
     }
 
     // Writes the bytes as words, while the position is before the end. Refuses 14, then 1, then 7; these two keep the words already written.
-    pub fn write(&mut self, bytes: &[u8]) -> Counted
+    pub fn write(&mut self, bytes: &[u8]) -> Result<Pos, Refusal>
         ensures { (said_counted result ≡ write_of self.old bytes.now) × (self.new ≡ written self.old bytes.now) }
     {
         let byte_pos = self.byte_pos;
@@ -205,7 +184,10 @@ pub fn set_receive_times(ports: &mut Ports, time_p0: u32, time_p3: u32, time_p1:
 }
 
 // Links a downstream device in the caller's record, to the next port that has none. Refuses 14 for device 0, then 9.
-pub fn assign_next_downstream_port(ports: &mut Ports, downstream_subdevice_index: u16) -> PortAnswer
+pub fn assign_next_downstream_port(
+    ports: &mut Ports,
+    downstream_subdevice_index: u16,
+) -> Result<Option<u8>, Refusal>
     ensures { (said_port result ≡ assigned_said ports.old downstream_subdevice_index) × (ports.new ≡ assigned_ports ports.old downstream_subdevice_index) }
 {
     let a = ports.assign_next_downstream_port(downstream_subdevice_index);

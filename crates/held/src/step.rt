@@ -4,8 +4,8 @@ ghost use Rattle.eeprom.specs.Range.{new_said, skip_said, byte_said, read_said, 
 ghost use Rattle.held.specs.Range.{alone, stands, ends};
 ghost use Rattle.held.specs.Answers.{said_outcome, said_byte_read, said_counted};
 
-use crate::{ByteRead, ByteStep, CountStep, Counted, Outcome};
-use eeprom::{ByteAnswer, Chunk, Exact, Pos, Range, RangeAnswer, Reading, Writing};
+use crate::{ByteStep, CountStep};
+use eeprom::{Chunk, Pos, Range};
 
 // The end of the range that a refused `new` hands out: an odd one, so that every later call on it is 14.
 const CLOSED_END: Pos = 1;
@@ -13,7 +13,7 @@ const CLOSED_END: Pos = 1;
 // A range that was asked for, and whether there is one.
 #[derive(Clone, Copy)]
 pub(crate) struct RangeStep {
-    pub(crate) answer: Outcome,
+    pub(crate) answer: Result<(), Refusal>,
     pub(crate) byte_pos: Pos,
     pub(crate) end: Pos,
 }
@@ -21,7 +21,7 @@ pub(crate) struct RangeStep {
 // An outcome, and the position after it.
 #[derive(Clone, Copy)]
 pub(crate) struct OutcomeStep {
-    pub(crate) answer: Outcome,
+    pub(crate) answer: Result<(), Refusal>,
     pub(crate) byte_pos: Pos,
 }
 
@@ -30,13 +30,13 @@ pub(crate) fn range_step(start_word: u16, len_words: u16) -> RangeStep
     ensures { (said_outcome result.answer ≡ alone (new_said start_word len_words)) × ((result.byte_pos ≡ stands 0 (new_said start_word len_words)) × (result.end ≡ ends (new_said start_word len_words))) }
 {
     match Range::new(start_word, len_words) {
-        RangeAnswer::Made(g) => RangeStep {
-            answer: Outcome::Done,
+        Ok(g) => RangeStep {
+            answer: Ok(()),
             byte_pos: g.byte_pos,
             end: g.end,
         },
-        RangeAnswer::No(x) => RangeStep {
-            answer: Outcome::No(x),
+        Err(x) => RangeStep {
+            answer: Err(x),
             byte_pos: 0,
             end: CLOSED_END,
         },
@@ -49,12 +49,12 @@ pub(crate) fn skip_step(byte_pos: Pos, end: Pos, skip: u16) -> OutcomeStep
 {
     let range = Range { byte_pos, end };
     match range.skip_ahead_bytes(skip) {
-        RangeAnswer::Made(g) => OutcomeStep {
-            answer: Outcome::Done,
+        Ok(g) => OutcomeStep {
+            answer: Ok(()),
             byte_pos: g.byte_pos,
         },
-        RangeAnswer::No(x) => OutcomeStep {
-            answer: Outcome::No(x),
+        Err(x) => OutcomeStep {
+            answer: Err(x),
             byte_pos,
         },
     }
@@ -66,12 +66,12 @@ pub(crate) fn byte_step(image: &[u8], byte_pos: Pos, end: Pos, chunk: Chunk) -> 
 {
     let range = Range { byte_pos, end };
     match range.read_byte(image, chunk) {
-        ByteAnswer::Byte(b, g) => ByteStep {
-            answer: ByteRead::Byte(b),
+        Ok((b, g)) => ByteStep {
+            answer: Ok(b),
             byte_pos: g.byte_pos,
         },
-        ByteAnswer::No(x) => ByteStep {
-            answer: ByteRead::No(x),
+        Err(x) => ByteStep {
+            answer: Err(x),
             byte_pos,
         },
     }
@@ -89,12 +89,12 @@ pub(crate) fn read_step(
 {
     let range = Range { byte_pos, end };
     match range.read(image, chunk, buf) {
-        Reading::Took(n, g) => CountStep {
-            answer: Counted::Bytes(n),
+        Ok((n, g)) => CountStep {
+            answer: Ok(n),
             byte_pos: g.byte_pos,
         },
-        Reading::No(x) => CountStep {
-            answer: Counted::No(x),
+        Err(x) => CountStep {
+            answer: Err(x),
             byte_pos,
         },
     }
@@ -115,12 +115,12 @@ pub(crate) fn exact_step(
     let after = r.range;
     let answer = r.answer;
     match answer {
-        Exact::Full => OutcomeStep {
-            answer: Outcome::Done,
+        Ok(()) => OutcomeStep {
+            answer: Ok(()),
             byte_pos: after.byte_pos,
         },
-        Exact::No(x) => OutcomeStep {
-            answer: Outcome::No(x),
+        Err(x) => OutcomeStep {
+            answer: Err(x),
             byte_pos: after.byte_pos,
         },
     }
@@ -135,12 +135,12 @@ pub(crate) fn write_step(image: &mut [u8], byte_pos: Pos, end: Pos, bytes: &[u8]
     let after = r.range;
     let answer = r.answer;
     match answer {
-        Writing::Written(n) => CountStep {
-            answer: Counted::Bytes(n),
+        Ok(n) => CountStep {
+            answer: Ok(n),
             byte_pos: after.byte_pos,
         },
-        Writing::No(x) => CountStep {
-            answer: Counted::No(x),
+        Err(x) => CountStep {
+            answer: Err(x),
             byte_pos: after.byte_pos,
         },
     }

@@ -21,24 +21,6 @@ ghost use Rattle.lines.specs.Pairs.{
 };
 ghost use Rattle.lines.specs.Places.{after};
 
-// A word as a number.
-#[derive(Clone, Copy)]
-pub enum NumberAnswer {
-    // The number that its digits spell.
-    Is(u64),
-    // It has no digit, or a byte that is none, or its value is above 32 bits.
-    Not,
-}
-
-// A word as bytes.
-#[derive(Clone, Copy)]
-pub enum HexAnswer {
-    // How many there are.
-    Length(usize),
-    // It is no BYTES, or they have no room.
-    Not,
-}
-
 // The end of the word that starts at from.
 pub fn word_end(line: &[u8], from: usize) -> usize
     ensures { result ≡ word_end line.now from }
@@ -82,7 +64,7 @@ fn digit(b: u8) -> u64
 const NUMBER_MOST: u64 = 4294967295;
 
 // What a word's digits say; no digit at all says 0.
-fn run(word: &[u8]) -> NumberAnswer
+fn run(word: &[u8]) -> Option<u64>
     ensures { said_number result ≡ number_from 0 word.now }
 {
     let mut v: u64 = 0;
@@ -90,26 +72,22 @@ fn run(word: &[u8]) -> NumberAnswer
     while i < word.len() {
         let d = digit(word[i]);
         if 9 < d {
-            return NumberAnswer::Not;
+            return None;
         }
         v = 10 * v + d;
         if NUMBER_MOST < v {
-            return NumberAnswer::Not;
+            return None;
         }
         i += 1;
     }
-    NumberAnswer::Is(v)
+    Some(v)
 }
 
 // The number that a word spells in decimal, leading zeros allowed.
-pub fn number(word: &[u8]) -> NumberAnswer
+pub fn number(word: &[u8]) -> Option<u64>
     ensures { said_number result ≡ number_said word.now }
 {
-    if word.len() == 0 {
-        NumberAnswer::Not
-    } else {
-        run(word)
-    }
+    if word.len() == 0 { None } else { run(word) }
 }
 
 // The value of a hex digit in lower case; 16 of any other byte.
@@ -169,7 +147,7 @@ fn put_bytes(word: &[u8], room: &mut [u8], n: usize)
 }
 
 // The bytes that a word spells, laid at the room's front; if it is no BYTES, or they have no room, the room stays.
-pub fn hex(word: &[u8], room: &mut [u8]) -> HexAnswer
+pub fn hex(word: &[u8], room: &mut [u8]) -> Option<usize>
     ensures result_value { said_hex result ≡ hex_said word.now room.old }
     ensures room_after { room.new ≡ hex_room word.now room.old }
 {
@@ -177,10 +155,10 @@ pub fn hex(word: &[u8], room: &mut [u8]) -> HexAnswer
         let n = word.len() / 2;
         if n <= room.len() {
             put_bytes(word, room, n);
-            return HexAnswer::Length(n);
+            return Some(n);
         }
     }
-    HexAnswer::Not
+    None
 }
 
 // The place after n bytes from k on.

@@ -22,7 +22,7 @@ use crate::layout::{
     PDO_SYNC_M, PROCESS_DATA_READ, PROCESS_DATA_WRITE, SM_BYTES, SM_LENGTH, SM_MOST, SYNC_M_TYPE,
     SYNC_M_TYPE_LAST, WATCHDOG,
 };
-use category::{FMMU, FMMU_EXTENDED, Found, RX_PDO, SYNC_MANAGER, TX_PDO, category};
+use category::{FMMU, FMMU_EXTENDED, RX_PDO, SYNC_MANAGER, TX_PDO, category};
 use eeprom::{Chunk, byte_of, word_of};
 use refusal::Refusal;
 use wire::flag;
@@ -81,28 +81,6 @@ pub struct PdoList {
     pub items: [Pdo; 64],
 }
 
-// What stands at a position: a record and where the next one starts, no whole record, or one that its type does not admit.
-#[derive(Clone, Copy)]
-enum SmItem {
-    One(SyncManager, u32),
-    Stop,
-    Bad,
-}
-
-#[derive(Clone, Copy)]
-enum FmmuItem {
-    One(u8, u32),
-    Stop,
-    Bad,
-}
-
-#[derive(Clone, Copy)]
-enum PdoItem {
-    One(Pdo, u32),
-    Stop,
-    Bad,
-}
-
 // The two lists of FMMUs.
 #[derive(Clone, Copy)]
 enum FmmuKind {
@@ -117,9 +95,9 @@ pub fn sync_managers(image: &[u8], chunk: Chunk) -> SyncManagers
     ensures { back_sms result ≡ back sm_zero sm_most (sms_of image.now) }
 {
     match category(image, chunk, SYNC_MANAGER) {
-        Found::At(g) => sms_in(image, chunk, g.byte_pos, g.end),
-        Found::Absent => no_sms(ListAnswer::Listed),
-        Found::No(x) => no_sms(ListAnswer::No(x)),
+        Ok(Some(g)) => sms_in(image, chunk, g.byte_pos, g.end),
+        Ok(None) => no_sms(ListAnswer::Listed),
+        Err(x) => no_sms(ListAnswer::No(x)),
     }
 }
 
@@ -162,7 +140,7 @@ fn sms_in(image: &[u8], chunk: Chunk, start: u32, end: u32) -> SyncManagers
     let mut at = start;
     loop {
         match sm_item(image, chunk, at, end) {
-            SmItem::One(sm, next) => {
+            Ok(Some((sm, next))) => {
                 if count < SM_MOST {
                     items[count] = sm;
                     count += 1;
@@ -171,14 +149,14 @@ fn sms_in(image: &[u8], chunk: Chunk, start: u32, end: u32) -> SyncManagers
                     return no_sms(ListAnswer::No(Refusal::Capacity));
                 }
             }
-            SmItem::Stop => {
+            Ok(None) => {
                 return SyncManagers {
                     answer: ListAnswer::Listed,
                     count,
                     items,
                 };
             }
-            SmItem::Bad => {
+            Err(Refusal::Decode) => {
                 return no_sms(ListAnswer::No(Refusal::Decode));
             }
         }
@@ -186,7 +164,12 @@ fn sms_in(image: &[u8], chunk: Chunk, start: u32, end: u32) -> SyncManagers
 }
 
 #[tactic(auto, unfolding(crate::specs::SyncManagers::sm_at))]
-fn sm_item(image: &[u8], chunk: Chunk, at: u32, end: u32) -> SmItem
+fn sm_item(
+    image: &[u8],
+    chunk: Chunk,
+    at: u32,
+    end: u32,
+) -> Result<Option<(SyncManager, u32)>, Refusal>
     requires { at ≤ place_most }
     ensures { item_sm result ≡ sm_at image.now end at }
 {
@@ -194,12 +177,12 @@ fn sm_item(image: &[u8], chunk: Chunk, at: u32, end: u32) -> SmItem
     if next <= end {
         let sm = sm_at(image, chunk, at);
         if sm.enable < ENABLE_BELOW {
-            SmItem::One(sm, next)
+            Ok(Some((sm, next)))
         } else {
-            SmItem::Bad
+            Err(Refusal::Decode)
         }
     } else {
-        SmItem::Stop
+        Ok(None)
     }
 }
 
@@ -277,9 +260,9 @@ pub fn fmmus(image: &[u8], chunk: Chunk) -> FmmuList
     ensures { back_fmmus result ≡ back 0 fmmu_most (usages_of image.now) }
 {
     match category(image, chunk, FMMU) {
-        Found::At(g) => usages_in(image, chunk, g.byte_pos, g.end),
-        Found::Absent => no_fmmus(ListAnswer::Listed),
-        Found::No(x) => no_fmmus(ListAnswer::No(x)),
+        Ok(Some(g)) => usages_in(image, chunk, g.byte_pos, g.end),
+        Ok(None) => no_fmmus(ListAnswer::Listed),
+        Err(x) => no_fmmus(ListAnswer::No(x)),
     }
 }
 
@@ -288,9 +271,9 @@ pub fn fmmu_mappings(image: &[u8], chunk: Chunk) -> FmmuList
     ensures { back_fmmus result ≡ back 0 fmmu_most (ex_of image.now) }
 {
     match category(image, chunk, FMMU_EXTENDED) {
-        Found::At(g) => fmmus_in(image, chunk, FmmuKind::Ex, g.byte_pos, g.end),
-        Found::Absent => no_fmmus(ListAnswer::Listed),
-        Found::No(x) => no_fmmus(ListAnswer::No(x)),
+        Ok(Some(g)) => fmmus_in(image, chunk, FmmuKind::Ex, g.byte_pos, g.end),
+        Ok(None) => no_fmmus(ListAnswer::Listed),
+        Err(x) => no_fmmus(ListAnswer::No(x)),
     }
 }
 
@@ -324,7 +307,7 @@ fn fmmus_in(image: &[u8], chunk: Chunk, kind: FmmuKind, start: u32, end: u32) ->
     let mut at = start;
     loop {
         match fmmu_item(image, chunk, kind, at, end) {
-            FmmuItem::One(value, next) => {
+            Ok(Some((value, next))) => {
                 if count < FMMU_MOST {
                     items[count] = value;
                     count += 1;
@@ -333,21 +316,27 @@ fn fmmus_in(image: &[u8], chunk: Chunk, kind: FmmuKind, start: u32, end: u32) ->
                     return no_fmmus(ListAnswer::No(Refusal::Capacity));
                 }
             }
-            FmmuItem::Stop => {
+            Ok(None) => {
                 return FmmuList {
                     answer: ListAnswer::Listed,
                     count,
                     items,
                 };
             }
-            FmmuItem::Bad => {
+            Err(Refusal::Decode) => {
                 return no_fmmus(ListAnswer::No(Refusal::Decode));
             }
         }
     }
 }
 
-fn fmmu_item(image: &[u8], chunk: Chunk, kind: FmmuKind, at: u32, end: u32) -> FmmuItem
+fn fmmu_item(
+    image: &[u8],
+    chunk: Chunk,
+    kind: FmmuKind,
+    at: u32,
+    end: u32,
+) -> Result<Option<(u8, u32)>, Refusal>
     requires { at ≤ place_most }
     ensures { item_fmmu result ≡ fmmu_at kind image.now end at }
 {
@@ -357,7 +346,7 @@ fn fmmu_item(image: &[u8], chunk: Chunk, kind: FmmuKind, at: u32, end: u32) -> F
     }
 }
 
-fn usage_item(image: &[u8], chunk: Chunk, at: u32, end: u32) -> FmmuItem
+fn usage_item(image: &[u8], chunk: Chunk, at: u32, end: u32) -> Result<Option<(u8, u32)>, Refusal>
     requires { at ≤ place_most }
     ensures { item_fmmu result ≡ usage_at image.now end at }
 {
@@ -365,12 +354,12 @@ fn usage_item(image: &[u8], chunk: Chunk, at: u32, end: u32) -> FmmuItem
     if next <= end {
         let usage = byte_of(image, chunk, at);
         if usage_admitted(usage) {
-            FmmuItem::One(or_default(usage, FMMU_USAGE_LAST), next)
+            Ok(Some((or_default(usage, FMMU_USAGE_LAST), next)))
         } else {
-            FmmuItem::Bad
+            Err(Refusal::Decode)
         }
     } else {
-        FmmuItem::Stop
+        Ok(None)
     }
 }
 
@@ -385,15 +374,15 @@ fn usage_admitted(usage: u8) -> bool
     }
 }
 
-fn ex_item(image: &[u8], chunk: Chunk, at: u32, end: u32) -> FmmuItem
+fn ex_item(image: &[u8], chunk: Chunk, at: u32, end: u32) -> Result<Option<(u8, u32)>, Refusal>
     requires { at ≤ place_most }
     ensures { item_fmmu result ≡ ex_at image.now end at }
 {
     let next = at + EX_BYTES;
     if next <= end {
-        FmmuItem::One(byte_of(image, chunk, at + EX_SYNC_M), next)
+        Ok(Some((byte_of(image, chunk, at + EX_SYNC_M), next)))
     } else {
-        FmmuItem::Stop
+        Ok(None)
     }
 }
 
@@ -417,9 +406,9 @@ fn pdos(image: &[u8], chunk: Chunk, number: u16) -> PdoList
     ensures { back_pdos result ≡ back pdo_zero pdo_most (pdos_of image.now number) }
 {
     match category(image, chunk, number) {
-        Found::At(g) => pdos_in(image, chunk, g.byte_pos, g.end),
-        Found::Absent => no_pdos(ListAnswer::Listed),
-        Found::No(x) => no_pdos(ListAnswer::No(x)),
+        Ok(Some(g)) => pdos_in(image, chunk, g.byte_pos, g.end),
+        Ok(None) => no_pdos(ListAnswer::Listed),
+        Err(x) => no_pdos(ListAnswer::No(x)),
     }
 }
 
@@ -451,7 +440,7 @@ fn pdos_in(image: &[u8], chunk: Chunk, start: u32, end: u32) -> PdoList
     let mut at = start;
     loop {
         match pdo_item(image, chunk, at, end) {
-            PdoItem::One(pdo, next) => {
+            Ok(Some((pdo, next))) => {
                 if count < PDO_MOST {
                     items[count] = pdo;
                     count += 1;
@@ -460,21 +449,21 @@ fn pdos_in(image: &[u8], chunk: Chunk, start: u32, end: u32) -> PdoList
                     return no_pdos(ListAnswer::No(Refusal::Capacity));
                 }
             }
-            PdoItem::Stop => {
+            Ok(None) => {
                 return PdoList {
                     answer: ListAnswer::Listed,
                     count,
                     items,
                 };
             }
-            PdoItem::Bad => {
+            Err(Refusal::Decode) => {
                 return no_pdos(ListAnswer::No(Refusal::Decode));
             }
         }
     }
 }
 
-fn pdo_item(image: &[u8], chunk: Chunk, at: u32, end: u32) -> PdoItem
+fn pdo_item(image: &[u8], chunk: Chunk, at: u32, end: u32) -> Result<Option<(Pdo, u32)>, Refusal>
     requires { at ≤ place_most }
     ensures { item_pdo result ≡ pdo_at image.now end at }
 {
@@ -483,12 +472,12 @@ fn pdo_item(image: &[u8], chunk: Chunk, at: u32, end: u32) -> PdoItem
         let n = entries(image, chunk, at);
         let next = body + ENTRY_BYTES * (n as u32);
         if next <= end {
-            PdoItem::One(pdo_at(image, chunk, at, n), next)
+            Ok(Some((pdo_at(image, chunk, at, n), next)))
         } else {
-            PdoItem::Bad
+            Err(Refusal::Decode)
         }
     } else {
-        PdoItem::Stop
+        Ok(None)
     }
 }
 

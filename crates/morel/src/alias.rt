@@ -3,7 +3,6 @@ use crate::file::open;
 use crate::image::checksum_right;
 use crate::status::{ANSWERED, WRONG};
 use crate::text::{WHOLE, error, front, line, no, record, refused};
-use sii::AliasSet;
 use std::alloc::AllocGlobal;
 use std::fs::{File, OpenOptions};
 use std::os::unix::fs::FileExt;
@@ -42,14 +41,14 @@ pub(crate) fn set<R: Files<File = File> + Print + Eprint + AllocGlobal>(
     let before = bytes_of(image);
     let right = checksum_right(image);
     match sii::set_station_alias(image, alias as u16) {
-        AliasSet::Done => {
+        Ok(()) => {
             if may_write(rt, right, force) {
                 store(rt, path, image, alias, before)
             } else {
                 WRONG
             }
         }
-        AliasSet::No(x) => refused(rt, WHOLE, b"alias", no(x)),
+        Err(x) => refused(rt, WHOLE, b"alias", no(x)),
     }
 }
 

@@ -1,8 +1,7 @@
 // An image that is cut: what lies past its end reads as 0xFF, and what was read there is marked.
 use crate::text::{decimal, say};
-use category::{InsideAnswer, category_inside};
+use category::category_inside;
 use eeprom::Chunk;
-use sii::SizeAnswer;
 
 // The end of the size word, and that of the fixed area, in bytes.
 pub(crate) const SIZE_END: usize = 126;
@@ -15,8 +14,8 @@ fn whole(image: &[u8]) -> usize {
         return FIXED_END;
     }
     match sii::size(image, Chunk::Eight) {
-        SizeAnswer::Bytes(n) => n as usize,
-        SizeAnswer::No(_) => FIXED_END,
+        Ok(n) => n as usize,
+        Err(_) => FIXED_END,
     }
 }
 
@@ -42,7 +41,7 @@ pub(crate) fn ends_before(image: &[u8], end: usize) -> bool {
 // cut may have read a length past its end.
 pub(crate) fn category_cut(image: &[u8], number: u16) -> bool {
     match category_inside(image, Chunk::Eight, number) {
-        InsideAnswer::Inside(inside) => !inside,
-        InsideAnswer::No(_) => image.len() < whole(image),
+        Ok(inside) => !inside,
+        Err(_) => image.len() < whole(image),
     }
 }

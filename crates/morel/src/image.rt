@@ -4,13 +4,8 @@ use crate::status::{WRONG, worse};
 use crate::text::{no, record, refused};
 use crate::{cut, records, texts};
 use eeprom::Chunk;
-use setup::{
-    BootstrapAnswer, ChecksumAnswer, Checksums, PdiAnswer, VersionAnswer, bootstrap_row, pdi_row,
-};
-use sii::{
-    AliasAnswer, GeneralAnswer, IdentityAnswer, MailboxAnswer, PortsAnswer, SizeAnswer, WordAnswer,
-    general_row, identity_row, mailbox_row, ports_row,
-};
+use setup::{Checksums, bootstrap_row, pdi_row};
+use sii::{general_row, identity_row, mailbox_row, ports_row};
 
 // Where what is read of the fixed area ends, in bytes.
 const PDI_END: usize = 8;
@@ -61,24 +56,24 @@ fn mailboxes(rt: &impl Print, image: &[u8]) -> u8 {
 fn size(rt: &impl Print, image: &[u8]) -> u8 {
     let cut = ends_before(image, SIZE_END);
     match sii::size(image, Chunk::Eight) {
-        SizeAnswer::Bytes(n) => record(rt, cut, 0, b"dsii bytes", &[n as u64]),
-        SizeAnswer::No(x) => refused(rt, cut, b"sii bytes", no(x)),
+        Ok(n) => record(rt, cut, 0, b"dsii bytes", &[n as u64]),
+        Err(x) => refused(rt, cut, b"sii bytes", no(x)),
     }
 }
 
 fn version(rt: &impl Print, image: &[u8]) -> u8 {
     let cut = ends_before(image, FIXED_END);
     match setup::version(image, Chunk::Eight) {
-        VersionAnswer::Version(n) => record(rt, cut, 0, b"dsii version", &[n as u64]),
-        VersionAnswer::No(x) => refused(rt, cut, b"sii version", no(x)),
+        Ok(n) => record(rt, cut, 0, b"dsii version", &[n as u64]),
+        Err(x) => refused(rt, cut, b"sii version", no(x)),
     }
 }
 
 fn checksum(rt: &impl Print, image: &[u8]) -> u8 {
     let cut = ends_before(image, CHECKSUM_END);
     match setup::checksum(image, Chunk::Eight) {
-        ChecksumAnswer::Is(c) => checksums(rt, cut, c),
-        ChecksumAnswer::No(x) => refused(rt, cut, b"checksum", no(x)),
+        Ok(c) => checksums(rt, cut, c),
+        Err(x) => refused(rt, cut, b"checksum", no(x)),
     }
 }
 
@@ -98,51 +93,51 @@ fn checksums(rt: &impl Print, cut: bool, c: Checksums) -> u8 {
 // Whether the stored checksum is that of the bytes before it.
 pub(crate) fn checksum_right(image: &[u8]) -> bool {
     match setup::checksum(image, Chunk::Eight) {
-        ChecksumAnswer::Is(c) => c.stored == c.computed,
-        ChecksumAnswer::No(_) => false,
+        Ok(c) => c.stored == c.computed,
+        Err(_) => false,
     }
 }
 
 fn alias(rt: &impl Print, image: &[u8]) -> u8 {
     let cut = ends_before(image, ALIAS_END);
     match sii::station_alias(image, Chunk::Eight) {
-        AliasAnswer::Alias(n) => record(rt, cut, 0, b"dalias", &[n as u64]),
-        AliasAnswer::No(x) => refused(rt, cut, b"alias", no(x)),
+        Ok(n) => record(rt, cut, 0, b"dalias", &[n as u64]),
+        Err(x) => refused(rt, cut, b"alias", no(x)),
     }
 }
 
 fn pdi(rt: &impl Print, image: &[u8]) -> u8 {
     let cut = ends_before(image, PDI_END);
     match setup::pdi_control(image, Chunk::Eight) {
-        PdiAnswer::Is(p) => record(
+        Ok(p) => record(
             rt,
             cut,
             0,
             b"4pdi control,4pdi configuration,dsync impulse length,4pdi configuration 2",
             &pdi_row(p),
         ),
-        PdiAnswer::No(x) => refused(rt, cut, b"pdi control", no(x)),
+        Err(x) => refused(rt, cut, b"pdi control", no(x)),
     }
 }
 
 fn identity(rt: &impl Print, image: &[u8]) -> u8 {
     let cut = ends_before(image, IDENTITY_END);
     match sii::identity(image, Chunk::Eight) {
-        IdentityAnswer::Is(i) => record(
+        Ok(i) => record(
             rt,
             cut,
             0,
             b"8vendor,8product,8revision,8serial",
             &identity_row(i),
         ),
-        IdentityAnswer::No(x) => refused(rt, cut, b"identity", no(x)),
+        Err(x) => refused(rt, cut, b"identity", no(x)),
     }
 }
 
 fn bootstrap(rt: &impl Print, image: &[u8]) -> u8 {
     let cut = ends_before(image, BOOTSTRAP_END);
     match setup::bootstrap_mailbox(image, Chunk::Eight) {
-        BootstrapAnswer::Is(m) => record(
+        Ok(m) => record(
             rt,
             cut,
             0,
@@ -152,14 +147,14 @@ fn bootstrap(rt: &impl Print, image: &[u8]) -> u8 {
               dbootstrap send size",
             &bootstrap_row(m),
         ),
-        BootstrapAnswer::No(x) => refused(rt, cut, b"bootstrap", no(x)),
+        Err(x) => refused(rt, cut, b"bootstrap", no(x)),
     }
 }
 
 fn mailbox(rt: &impl Print, image: &[u8]) -> u8 {
     let cut = ends_before(image, MAILBOX_END);
     match sii::mailbox_config(image, Chunk::Eight) {
-        MailboxAnswer::Is(m) => record(
+        Ok(m) => record(
             rt,
             cut,
             0,
@@ -170,13 +165,13 @@ fn mailbox(rt: &impl Print, image: &[u8]) -> u8 {
               fmailbox protocols=AoE EoE CoE FoE SoE VoE",
             &mailbox_row(m),
         ),
-        MailboxAnswer::No(x) => refused(rt, cut, b"mailbox", no(x)),
+        Err(x) => refused(rt, cut, b"mailbox", no(x)),
     }
 }
 
 fn general(rt: &impl Print, image: &[u8], cut: bool) -> u8 {
     match sii::general(image, Chunk::Eight) {
-        GeneralAnswer::Is(g) => record(
+        Ok(g) => record(
             rt,
             cut,
             0,
@@ -196,7 +191,7 @@ fn general(rt: &impl Print, image: &[u8], cut: bool) -> u8 {
               4general physical address",
             &general_row(g),
         ),
-        GeneralAnswer::No(x) => refused(rt, cut, b"general", no(x)),
+        Err(x) => refused(rt, cut, b"general", no(x)),
     }
 }
 
@@ -209,7 +204,7 @@ fn physical(rt: &impl Print, image: &[u8], cut: bool) -> u8 {
 
 fn physical_ports(rt: &impl Print, image: &[u8], cut: bool) -> u8 {
     match sii::physical_ports(image, Chunk::Eight) {
-        PortsAnswer::Is(p) => record(
+        Ok(p) => record(
             rt,
             cut,
             0,
@@ -219,13 +214,13 @@ fn physical_ports(rt: &impl Print, image: &[u8], cut: bool) -> u8 {
               vphysical port 3=Unused Mii Reserved Ebus FastHotConnect",
             &ports_row(p),
         ),
-        PortsAnswer::No(x) => refused(rt, cut, b"physical ports", no(x)),
+        Err(x) => refused(rt, cut, b"physical ports", no(x)),
     }
 }
 
 fn physical_memory_address(rt: &impl Print, image: &[u8], cut: bool) -> u8 {
     match sii::physical_memory_address(image, Chunk::Eight) {
-        WordAnswer::Word(n) => record(rt, cut, 0, b"4physical memory address", &[n as u64]),
-        WordAnswer::No(x) => refused(rt, cut, b"physical memory address", no(x)),
+        Ok(n) => record(rt, cut, 0, b"4physical memory address", &[n as u64]),
+        Err(x) => refused(rt, cut, b"physical memory address", no(x)),
     }
 }

@@ -4,7 +4,7 @@ use crate::text::{WHOLE, back, bytes, end, error, front, front_mut, label, no, r
 use crate::words::UNREADABLE;
 use created_frame::Builder;
 use pdu::AREA_MOST;
-use spread::{SpreadAnswer, Spreading};
+use spread::Spreading;
 use std::num::{wrapping_add_usize, wrapping_sub_usize};
 use wire::lesser;
 
@@ -50,8 +50,8 @@ fn spread_over(rt: &impl Print, image: &[u8], size: usize, total: usize) -> u8 {
 fn said(rt: &impl Print, areas: &[u8], size: usize, r: Spreading) -> u8 {
     let answer = r.answer;
     match answer {
-        SpreadAnswer::Last(n) => pieces(rt, areas, size, r, n),
-        SpreadAnswer::No(x) => refused(rt, WHOLE, b"last area", no(x)),
+        Ok(n) => pieces(rt, areas, size, r, n),
+        Err(x) => refused(rt, WHOLE, b"last area", no(x)),
     }
 }
 

@@ -2,9 +2,7 @@
 use crate::cut::category_cut;
 use crate::status::worse;
 use crate::text::{end, front, label, no, of_cut, plain, record, refusal, refused, say};
-use category::Found;
 use eeprom::{Chunk, Range};
-use strings::StringAnswer;
 
 // Which string is asked for.
 const NAME: u8 = 0;
@@ -13,7 +11,7 @@ const DESCRIPTION: u8 = 1;
 
 const STRING: u8 = 2;
 
-fn asked(image: &[u8], which: u8, i: u8, room: &mut [u8]) -> StringAnswer {
+fn asked(image: &[u8], which: u8, i: u8, room: &mut [u8]) -> Result<Option<u16>, Refusal> {
     match which {
         NAME => strings::device_name(image, Chunk::Eight, room),
         DESCRIPTION => strings::device_description(image, Chunk::Eight, room),
@@ -27,9 +25,9 @@ fn string(rt: &impl Print, image: &[u8], cut: bool, which: u8, i: u8, name: &[u8
     let r = asked(image, which, i, &mut room);
     label(rt, i as usize, name);
     match r {
-        StringAnswer::Length(n) => found(rt, cut, front(&room, n as usize)),
-        StringAnswer::Absent => absent(rt, cut),
-        StringAnswer::No(x) => refusal(rt, cut, no(x)),
+        Ok(Some(n)) => found(rt, cut, front(&room, n as usize)),
+        Ok(None) => absent(rt, cut),
+        Err(x) => refusal(rt, cut, no(x)),
     }
 }
 
@@ -67,12 +65,12 @@ fn count(image: &[u8], g: Range) -> u8 {
 
 fn category(rt: &impl Print, image: &[u8], cut: bool) -> u8 {
     match category::category(image, Chunk::Eight, category::STRINGS) {
-        Found::At(g) => all(rt, image, cut, count(image, g)),
-        Found::Absent => {
+        Ok(Some(g)) => all(rt, image, cut, count(image, g)),
+        Ok(None) => {
             label(rt, 0, b"strings");
             absent(rt, cut)
         }
-        Found::No(x) => refused(rt, cut, b"strings", no(x)),
+        Err(x) => refused(rt, cut, b"strings", no(x)),
     }
 }
 

@@ -1,6 +1,5 @@
 // The program's arguments: a word that is looked for, and a word as a number.
 use crate::text::{back, front};
-use lines::NumberAnswer;
 use std::env::FillError;
 use std::rt::Env;
 
@@ -53,8 +52,8 @@ fn spelled(word: &[u8]) -> u64 {
         }
     }
     match lines::number(word) {
-        NumberAnswer::Is(v) => v,
-        NumberAnswer::Not => UNREADABLE,
+        Some(v) => v,
+        None => UNREADABLE,
     }
 }
 

@@ -3,8 +3,8 @@ ghost use Rattle.std.specs.Prelude.{◌≡◌, ◌<◌};
 ghost use Rattle.ports.specs.Ports.{nowhere, entry};
 ghost use Rattle.ports.specs.Assigning.{open_at, assignable};
 
+use crate::Ports;
 use crate::place::NOWHERE;
-use crate::{Link, Ports};
 
 // How many places there are: after the last comes the first.
 const PLACE_COUNT: usize = 4;
@@ -19,8 +19,8 @@ fn is_open(p: Ports, k: usize) -> bool
     if q.active {
         let link = q.downstream_to;
         match link {
-            Link::Free => true,
-            Link::To(_) => false,
+            None => true,
+            Some(_) => false,
         }
     } else {
         false

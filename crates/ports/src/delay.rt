@@ -6,20 +6,16 @@ ghost use Rattle.ports.specs.Delays.{largest, total, delay_said, elapsed, total_
 
 use crate::active::entry_place;
 use crate::place::{NOWHERE, port_at, timed_at};
-use crate::{Port, Ports, TimeAnswer};
+use crate::{Port, Ports};
 
 // A sum of delays has 32 bits.
 pub(crate) const SUM_MOST: u64 = 4294967295;
 
 // A delay; one of 0 is absent.
-pub(crate) fn delay(t: u32) -> TimeAnswer
+pub(crate) fn delay(t: u32) -> Result<Option<u32>, Refusal>
     ensures { said_time result ≡ delay_said t }
 {
-    if t == 0 {
-        TimeAnswer::Absent
-    } else {
-        TimeAnswer::Time(t)
-    }
+    if t == 0 { Ok(None) } else { Ok(Some(t)) }
 }
 
 // a less b, never below 0.

@@ -28,15 +28,6 @@ mod text;
 // Ports are numbered below this.
 const PORT_COUNT: u8 = 4;
 
-// The downstream device on a port.
-#[derive(Clone, Copy)]
-pub enum Link {
-    // No device.
-    Free,
-    // The device with this index.
-    To(u16),
-}
-
 // One port of a device.
 #[derive(Clone, Copy)]
 pub struct Port {
@@ -45,7 +36,7 @@ pub struct Port {
     pub dc_receive_time: u32,
     // The EtherCAT port number, as `new` gives it.
     pub number: u8,
-    pub downstream_to: Link,
+    pub downstream_to: Option<u16>,
 }
 
 // The ports 0, 3, 1, 2, in this order.
@@ -65,41 +56,10 @@ pub enum Topology {
     Cross,
 }
 
-// Which port.
-#[derive(Clone, Copy)]
-pub enum PortAnswer {
-    // The port with this number.
-    At(u8),
-    Absent,
-    No(Refusal),
-}
-
-// How long, in nanoseconds.
-#[derive(Clone, Copy)]
-pub enum TimeAnswer {
-    Time(u32),
-    Absent,
-    No(Refusal),
-}
-
-// Which topology.
-#[derive(Clone, Copy)]
-pub enum TopologyAnswer {
-    Is(Topology),
-    No(Refusal),
-}
-
-// How many bytes of text.
-#[derive(Clone, Copy)]
-pub enum TextAnswer {
-    Written(usize),
-    No(Refusal),
-}
-
 // The port that was linked, and the record after that.
 #[derive(Clone, Copy)]
 pub struct Assigned {
-    pub answer: PortAnswer,
+    pub answer: Result<Option<u8>, Refusal>,
     pub ports: Ports,
 }
 
@@ -129,44 +89,44 @@ impl Ports {
     }
 
     // The port that sees the frame first. Refuses 9.
-    pub fn entry_port(self) -> PortAnswer
+    pub fn entry_port(self) -> Result<Option<u8>, Refusal>
         ensures { said_port result ≡ entry_said self }
     {
         let k = entry_place(self);
         if k < NOWHERE {
-            PortAnswer::At(number_at(k))
+            Ok(Some(number_at(k)))
         } else {
-            PortAnswer::No(Refusal::NoPort)
+            Err(Refusal::NoPort)
         }
     }
 
     // The active port at the highest place, or absent.
-    pub fn last_port(self) -> PortAnswer
+    pub fn last_port(self) -> Result<Option<u8>, Refusal>
         ensures { said_port result ≡ last_said self }
     {
         port_or_absent(last_place(self))
     }
 
     // How the device stands in the segment. Refuses 9.
-    pub fn topology(self) -> TopologyAnswer
+    pub fn topology(self) -> Result<Topology, Refusal>
         ensures { said_topology result ≡ topology_said self }
     {
         let n = count(self);
         if n == 0 {
-            return TopologyAnswer::No(Refusal::NoPort);
+            return Err(Refusal::NoPort);
         }
-        TopologyAnswer::Is(topology_of(n))
+        Ok(topology_of(n))
     }
 
     // How long a frame takes through all active ports; absent if 0 or none is active.
-    pub fn total_propagation_time(self) -> TimeAnswer
+    pub fn total_propagation_time(self) -> Result<Option<u32>, Refusal>
         ensures { said_time result ≡ total_said self }
     {
         delay(total_time(self))
     }
 
     // The longest time from the named entry port to an active port, on a clock that may turn over between; absent if 0. Refuses 10, then 9 if it is inactive.
-    pub fn total_propagation_time_from(self, entry: u8) -> TimeAnswer
+    pub fn total_propagation_time_from(self, entry: u8) -> Result<Option<u32>, Refusal>
         ensures { said_time result ≡ total_from_said self entry }
     {
         if entry < PORT_COUNT {
@@ -174,15 +134,15 @@ impl Ports {
             if port_at(self, k).active {
                 delay(total_since(self, k))
             } else {
-                TimeAnswer::No(Refusal::NoPort)
+                Err(Refusal::NoPort)
             }
         } else {
-            TimeAnswer::No(Refusal::BadPort)
+            Err(Refusal::BadPort)
         }
     }
 
     // How long a frame takes through the active ports from the entry to this one; absent if 0. Refuses 10, then 9.
-    pub fn propagation_time_to(self, port: u8) -> TimeAnswer
+    pub fn propagation_time_to(self, port: u8) -> Result<Option<u32>, Refusal>
         ensures { said_time result ≡ time_to_said self port }
     {
         if port < PORT_COUNT {
@@ -190,26 +150,26 @@ impl Ports {
             if e < NOWHERE {
                 delay(total_time(narrowed(self, e, place_of(port))))
             } else {
-                TimeAnswer::No(Refusal::NoPort)
+                Err(Refusal::NoPort)
             }
         } else {
-            TimeAnswer::No(Refusal::BadPort)
+            Err(Refusal::BadPort)
         }
     }
 
     // The sum of the delays between neighbouring active ports before this one. Refuses 10, then 11.
-    pub fn intermediate_propagation_time_to(self, port: u8) -> TimeAnswer
+    pub fn intermediate_propagation_time_to(self, port: u8) -> Result<Option<u32>, Refusal>
         ensures { said_time result ≡ intermediate_said self port }
     {
         if port < PORT_COUNT {
             let sum = gaps_before(self, place_of(port));
             if sum <= SUM_MOST {
-                TimeAnswer::Time(sum as u32)
+                Ok(Some(sum as u32))
             } else {
-                TimeAnswer::No(Refusal::Sum)
+                Err(Refusal::Sum)
             }
         } else {
-            TimeAnswer::No(Refusal::BadPort)
+            Err(Refusal::BadPort)
         }
     }
 
@@ -219,7 +179,7 @@ impl Ports {
     {
         if downstream_subdevice_index == 0 {
             return Assigned {
-                answer: PortAnswer::No(Refusal::BadArgument),
+                answer: Err(Refusal::BadArgument),
                 ports: self,
             };
         }
@@ -228,45 +188,45 @@ impl Ports {
             let k = next_assignable_port(self, e);
             if k < NOWHERE {
                 Assigned {
-                    answer: PortAnswer::At(number_at(k)),
+                    answer: Ok(Some(number_at(k))),
                     ports: linked_at(self, k, downstream_subdevice_index),
                 }
             } else {
                 Assigned {
-                    answer: PortAnswer::Absent,
+                    answer: Ok(None),
                     ports: self,
                 }
             }
         } else {
             Assigned {
-                answer: PortAnswer::No(Refusal::NoPort),
+                answer: Err(Refusal::NoPort),
                 ports: self,
             }
         }
     }
 
     // The first active port that is linked to this device, or absent. Refuses 14 for device 0.
-    pub fn port_assigned_to(self, subdevice: u16) -> PortAnswer
+    pub fn port_assigned_to(self, subdevice: u16) -> Result<Option<u8>, Refusal>
         ensures { said_port result ≡ linked_said self subdevice }
     {
         if subdevice == 0 {
-            PortAnswer::No(Refusal::BadArgument)
+            Err(Refusal::BadArgument)
         } else {
             port_or_absent(linked_place(self, subdevice))
         }
     }
 
     // The text `ports [ open closed open closed ]`, a word for each place, into the front of the buffer. Refuses 14 if it is too short.
-    pub fn display(self, buf: &mut [u8]) -> TextAnswer
+    pub fn display(self, buf: &mut [u8]) -> Result<usize, Refusal>
         ensures result_value { said_text result ≡ display_said self buf.old }
         ensures buf_after { buf.new ≡ display_buf self buf.old }
     {
         let n = text_len(self);
         if n <= buf.len() {
             put_text(self, buf);
-            TextAnswer::Written(n)
+            Ok(n)
         } else {
-            TextAnswer::No(Refusal::BadArgument)
+            Err(Refusal::BadArgument)
         }
     }
 }

@@ -4,7 +4,7 @@ ghost use Rattle.refusal.specs.Said.{absent};
 ghost use Rattle.ports.specs.Ports.{port_count, nowhere, number_at, place_of, port_at, active_at, linked_at, fresh_port, timed, link_set};
 ghost use Rattle.ports.specs.Answers.{said_port, port_said};
 
-use crate::{Link, Port, PortAnswer, Ports};
+use crate::{Port, Ports};
 
 // The place of no port: one past the last.
 pub(crate) const NOWHERE: usize = 4;
@@ -32,13 +32,13 @@ pub(crate) fn place_of(n: u8) -> usize
 }
 
 // The number of the port at a place; nowhere: absent.
-pub(crate) fn port_or_absent(k: usize) -> PortAnswer
+pub(crate) fn port_or_absent(k: usize) -> Result<Option<u8>, Refusal>
     ensures { said_port result ≡ port_said k absent }
 {
     if k < NOWHERE {
-        PortAnswer::At(number_at(k))
+        Ok(Some(number_at(k)))
     } else {
-        PortAnswer::Absent
+        Ok(None)
     }
 }
 
@@ -61,8 +61,8 @@ pub(crate) fn leads_to(p: Ports, k: usize, device: u16) -> bool
     if q.active {
         let link = q.downstream_to;
         match link {
-            Link::Free => false,
-            Link::To(d) => d == device,
+            None => false,
+            Some(d) => d == device,
         }
     } else {
         false
@@ -77,7 +77,7 @@ pub(crate) fn fresh_port(active: bool, number: u8) -> Port
         active,
         dc_receive_time: 0,
         number,
-        downstream_to: Link::Free,
+        downstream_to: None,
     }
 }
 
@@ -108,7 +108,7 @@ pub(crate) fn linked_at(p: Ports, k: usize, device: u16) -> Ports
         active: q.active,
         dc_receive_time: q.dc_receive_time,
         number: q.number,
-        downstream_to: Link::To(device),
+        downstream_to: Some(device),
     };
     Ports(a)
 }

@@ -50,13 +50,6 @@ pub struct Received {
     pub pdus: [ReceivedPdu; PDUS_MOST],
 }
 
-// What is found of one PDU.
-#[derive(Clone, Copy)]
-enum Verdict {
-    Right,
-    Wrong(Refusal),
-}
-
 // The payload and the working counter of each PDU of a frame that came back. The handles are those that pushing gave, in order, four numbers each.
 #[tactic(auto, unfolding(crate::specs::Matching::received_of, crate::specs::Matching::matched, pdu::specs::Read::headed))]
 pub fn receive(handles: &[u64], frame: &[u8]) -> Received
@@ -101,7 +94,7 @@ fn match_all(handles: &[u64], s: &[u8], end: usize) -> Received
     let mut k: usize = 0;
     while at < end {
         let v = judge(handles, s, at, end, k);
-        if let Verdict::Wrong(x) = v {
+        if let Err(x) = v {
             return without(x);
         }
         let p = came_back(s, at);
@@ -121,14 +114,14 @@ fn match_all(handles: &[u64], s: &[u8], end: usize) -> Received
 
 // The PDU at `at`, the k-th, against the k-th handle: that it has one and ends rightly comes first.
 #[tactic(auto, using(crate::proofs::Laws::handles_none, crate::proofs::Laws::handles_some), unfolding(crate::specs::Matching::judged, crate::specs::Matching::compared, pdu::specs::Read::seen_at))]
-fn judge(handles: &[u64], s: &[u8], at: usize, end: usize, k: usize) -> Verdict
+fn judge(handles: &[u64], s: &[u8], at: usize, end: usize, k: usize) -> Result<(), Refusal>
     requires { (at < word_past) × (k ≤ pdus_most) }
     ensures { result ≡ judged (handles_in (drop (handle_numbers * k) handles.now)) s.now at end k }
 {
     let place = k as u16;
     let first = HANDLE_NUMBERS * k;
     if handles.len() < first + HANDLE_NUMBERS {
-        return Verdict::Wrong(Refusal::WrongFrame { place });
+        return Err(Refusal::WrongFrame { place });
     }
     let flags = word_at(s, at + FLAGS_AT);
     if ends_rightly(at, end, flags) {
@@ -142,25 +135,33 @@ fn judge(handles: &[u64], s: &[u8], at: usize, end: usize, k: usize) -> Verdict
             place,
         )
     } else {
-        Verdict::Wrong(Refusal::WrongFrame { place })
+        Err(Refusal::WrongFrame { place })
     }
 }
 
 // A handle's size, index and command against the command, the index and the length of the PDU at this place.
 #[tactic(auto, unfolding(crate::specs::Matching::compared))]
-fn compare(size: u64, index: u64, command: u64, c: u8, i: u8, n: u16, place: u16) -> Verdict
+fn compare(
+    size: u64,
+    index: u64,
+    command: u64,
+    c: u8,
+    i: u8,
+    n: u16,
+    place: u16,
+) -> Result<(), Refusal>
     ensures { result ≡ compared (record { start = 0; size = size; index = index; command = command }) c i n place }
 {
     if c as u64 != command {
-        return Verdict::Wrong(Refusal::WrongCommand { place });
+        return Err(Refusal::WrongCommand { place });
     }
     if i as u64 != index {
-        return Verdict::Wrong(Refusal::WrongIndex { place });
+        return Err(Refusal::WrongIndex { place });
     }
     if (n as u64) + (PDU_OVERHEAD_BYTES as u64) != size {
-        return Verdict::Wrong(Refusal::WrongLength { place });
+        return Err(Refusal::WrongLength { place });
     }
-    Verdict::Right
+    Ok(())
 }
 
 // What came back of the PDU whose header starts at `at`.

@@ -42,12 +42,6 @@ pub struct PdiControl {
     pub pdi_configuration2: u16,
 }
 
-#[derive(Clone, Copy)]
-pub enum PdiAnswer {
-    Is(PdiControl),
-    No(Refusal),
-}
-
 // The mailbox of the state Bootstrap: where the SubDevice receives and sends.
 #[derive(Clone, Copy)]
 pub struct BootstrapMailbox {
@@ -57,19 +51,6 @@ pub struct BootstrapMailbox {
     pub subdevice_send_size: u16,
 }
 
-#[derive(Clone, Copy)]
-pub enum BootstrapAnswer {
-    Is(BootstrapMailbox),
-    No(Refusal),
-}
-
-// The version of the SII.
-#[derive(Clone, Copy)]
-pub enum VersionAnswer {
-    Version(u16),
-    No(Refusal),
-}
-
 // The checksum that is stored, and the one that the bytes before it have. They are equal where the stored one is right.
 #[derive(Clone, Copy)]
 pub struct Checksums {
@@ -77,20 +58,14 @@ pub struct Checksums {
     pub computed: u8,
 }
 
-#[derive(Clone, Copy)]
-pub enum ChecksumAnswer {
-    Is(Checksums),
-    No(Refusal),
-}
-
 // The PDI's control and configuration.
-pub fn pdi_control(image: &[u8], chunk: Chunk) -> PdiAnswer
+pub fn pdi_control(image: &[u8], chunk: Chunk) -> Result<PdiControl, Refusal>
     ensures { said_pdi result ≡ pdi_said image.now }
 {
     if image_within(image) {
-        PdiAnswer::Is(pdi_in(image, chunk))
+        Ok(pdi_in(image, chunk))
     } else {
-        PdiAnswer::No(Refusal::BadArgument)
+        Err(Refusal::BadArgument)
     }
 }
 
@@ -106,13 +81,13 @@ fn pdi_in(image: &[u8], chunk: Chunk) -> PdiControl
 }
 
 // The bootstrap mailbox.
-pub fn bootstrap_mailbox(image: &[u8], chunk: Chunk) -> BootstrapAnswer
+pub fn bootstrap_mailbox(image: &[u8], chunk: Chunk) -> Result<BootstrapMailbox, Refusal>
     ensures { said_bootstrap result ≡ bootstrap_said image.now }
 {
     if image_within(image) {
-        BootstrapAnswer::Is(bootstrap_in(image, chunk))
+        Ok(bootstrap_in(image, chunk))
     } else {
-        BootstrapAnswer::No(Refusal::BadArgument)
+        Err(Refusal::BadArgument)
     }
 }
 
@@ -128,26 +103,26 @@ fn bootstrap_in(image: &[u8], chunk: Chunk) -> BootstrapMailbox
 }
 
 // The version of the SII.
-pub fn version(image: &[u8], chunk: Chunk) -> VersionAnswer
+pub fn version(image: &[u8], chunk: Chunk) -> Result<u16, Refusal>
     ensures { said_version result ≡ version_said image.now }
 {
     if image_within(image) {
-        VersionAnswer::Version(word_of(image, chunk, SII_VERSION))
+        Ok(word_of(image, chunk, SII_VERSION))
     } else {
-        VersionAnswer::No(Refusal::BadArgument)
+        Err(Refusal::BadArgument)
     }
 }
 
 // The stored checksum, and that of the words before it.
-pub fn checksum(image: &[u8], chunk: Chunk) -> ChecksumAnswer
+pub fn checksum(image: &[u8], chunk: Chunk) -> Result<Checksums, Refusal>
     ensures { said_checksum result ≡ checksum_said image.now }
 {
     if image_within(image) {
         let stored = byte_of(image, chunk, CHECKSUM as u32);
         let computed = sum(image, chunk);
-        ChecksumAnswer::Is(Checksums { stored, computed })
+        Ok(Checksums { stored, computed })
     } else {
-        ChecksumAnswer::No(Refusal::BadArgument)
+        Err(Refusal::BadArgument)
     }
 }
 

@@ -19,32 +19,11 @@ use crate::layout::{
     PROTOCOLS_BELOW, RECEIVE_MAILBOX_OFFSET, RECEIVE_MAILBOX_SIZE, REVISION_NUMBER,
     SEND_MAILBOX_OFFSET, SEND_MAILBOX_SIZE, SERIAL_NUMBER, UNIT_BYTES, VENDOR_ID, WORD_BYTES,
 };
-use category::{Found, GENERAL, category};
+use category::{GENERAL, category};
 use crc::crc;
 use eeprom::{Chunk, byte_of, image_within, long_of, word_of};
 use refusal::Refusal;
 use wire::{flag, lay};
-
-// The configured station alias.
-#[derive(Clone, Copy)]
-pub enum AliasAnswer {
-    Alias(u16),
-    No(Refusal),
-}
-
-// Whether the alias was set.
-#[derive(Clone, Copy)]
-pub enum AliasSet {
-    Done,
-    No(Refusal),
-}
-
-// The size of the EEPROM in bytes.
-#[derive(Clone, Copy)]
-pub enum SizeAnswer {
-    Bytes(u32),
-    No(Refusal),
-}
 
 #[derive(Clone, Copy)]
 pub struct SubDeviceIdentity {
@@ -52,12 +31,6 @@ pub struct SubDeviceIdentity {
     pub product_id: u32,
     pub revision: u32,
     pub serial: u32,
-}
-
-#[derive(Clone, Copy)]
-pub enum IdentityAnswer {
-    Is(SubDeviceIdentity),
-    No(Refusal),
 }
 
 // The standard mailbox: where the SubDevice receives and sends, and the protocols that it knows, a bit each.
@@ -68,12 +41,6 @@ pub struct DefaultMailbox {
     pub subdevice_send_offset: u16,
     pub subdevice_send_size: u16,
     pub supported_protocols: u8,
-}
-
-#[derive(Clone, Copy)]
-pub enum MailboxAnswer {
-    Is(DefaultMailbox),
-    No(Refusal),
 }
 
 // The category General.
@@ -105,50 +72,22 @@ pub struct PhysicalPorts {
     pub port3: u8,
 }
 
-#[derive(Clone, Copy)]
-pub enum PortsAnswer {
-    Is(PhysicalPorts),
-    No(Refusal),
-}
-
-// A field of General of 16 bits.
-#[derive(Clone, Copy)]
-pub enum WordAnswer {
-    Word(u16),
-    No(Refusal),
-}
-
-// General, where it is found.
-#[derive(Clone, Copy)]
-pub enum GeneralFound {
-    Is(SiiGeneral),
-    Absent,
-    No(Refusal),
-}
-
-// General, where it is needed.
-#[derive(Clone, Copy)]
-pub enum GeneralAnswer {
-    Is(SiiGeneral),
-    No(Refusal),
-}
-
 // ---- the fixed area
 
 // The configured station alias.
-pub fn station_alias(image: &[u8], chunk: Chunk) -> AliasAnswer
+pub fn station_alias(image: &[u8], chunk: Chunk) -> Result<u16, Refusal>
     ensures { said_alias result ≡ alias_said image.now }
 {
     if image_within(image) {
-        AliasAnswer::Alias(word_of(image, chunk, CONFIGURED_STATION_ALIAS))
+        Ok(word_of(image, chunk, CONFIGURED_STATION_ALIAS))
     } else {
-        AliasAnswer::No(Refusal::BadArgument)
+        Err(Refusal::BadArgument)
     }
 }
 
 // Sets the configured station alias and the checksum; a refusal changes nothing.
 #[tactic(auto, unfolding(crate::specs::Fixed::lent, crate::specs::Fixed::set_said, crate::specs::Fixed::set_image))]
-pub fn set_station_alias(image: &mut [u8], alias: u16) -> AliasSet
+pub fn set_station_alias(image: &mut [u8], alias: u16) -> Result<(), Refusal>
     ensures said { said_set result ≡ set_said image.old }
     ensures lent { image.new ≡ set_image image.old alias }
 {
@@ -156,12 +95,12 @@ pub fn set_station_alias(image: &mut [u8], alias: u16) -> AliasSet
         if CHECKSUM_END <= image.len() {
             put_alias(image, alias);
             put_checksum(image);
-            AliasSet::Done
+            Ok(())
         } else {
-            AliasSet::No(Refusal::NotWritable)
+            Err(Refusal::NotWritable)
         }
     } else {
-        AliasSet::No(Refusal::BadArgument)
+        Err(Refusal::BadArgument)
     }
 }
 
@@ -182,13 +121,13 @@ fn put_checksum(image: &mut [u8])
 }
 
 // Vendor, product, revision and serial number.
-pub fn identity(image: &[u8], chunk: Chunk) -> IdentityAnswer
+pub fn identity(image: &[u8], chunk: Chunk) -> Result<SubDeviceIdentity, Refusal>
     ensures { said_identity result ≡ identity_said image.now }
 {
     if image_within(image) {
-        IdentityAnswer::Is(identity_in(image, chunk))
+        Ok(identity_in(image, chunk))
     } else {
-        IdentityAnswer::No(Refusal::BadArgument)
+        Err(Refusal::BadArgument)
     }
 }
 
@@ -205,18 +144,18 @@ fn identity_in(image: &[u8], chunk: Chunk) -> SubDeviceIdentity
 
 // The standard mailbox.
 #[tactic(auto, unfolding(crate::specs::Fixed::lent, crate::specs::Fixed::mailbox_said))]
-pub fn mailbox_config(image: &[u8], chunk: Chunk) -> MailboxAnswer
+pub fn mailbox_config(image: &[u8], chunk: Chunk) -> Result<DefaultMailbox, Refusal>
     ensures { said_mailbox result ≡ mailbox_said image.now }
 {
     if image_within(image) {
         let mailbox = mailbox_in(image, chunk);
         if mailbox.supported_protocols < PROTOCOLS_BELOW {
-            MailboxAnswer::Is(mailbox)
+            Ok(mailbox)
         } else {
-            MailboxAnswer::No(Refusal::Decode)
+            Err(Refusal::Decode)
         }
     } else {
-        MailboxAnswer::No(Refusal::BadArgument)
+        Err(Refusal::BadArgument)
     }
 }
 
@@ -246,55 +185,55 @@ pub fn has_mailbox(m: DefaultMailbox) -> bool
 }
 
 // The size of the EEPROM in bytes, in full.
-pub fn size(image: &[u8], chunk: Chunk) -> SizeAnswer
+pub fn size(image: &[u8], chunk: Chunk) -> Result<u32, Refusal>
     ensures { said_size result ≡ size_said image.now }
 {
     if image_within(image) {
         let units = word_of(image, chunk, MEMORY_SIZE);
-        SizeAnswer::Bytes(((units as u32) + 1) * UNIT_BYTES)
+        Ok(((units as u32) + 1) * UNIT_BYTES)
     } else {
-        SizeAnswer::No(Refusal::BadArgument)
+        Err(Refusal::BadArgument)
     }
 }
 
 // ---- General
 
 // General; not found is refusal 3.
-pub fn general(image: &[u8], chunk: Chunk) -> GeneralAnswer
+pub fn general(image: &[u8], chunk: Chunk) -> Result<SiiGeneral, Refusal>
     ensures { said_general result ≡ general_said image.now }
 {
     match find_general(image, chunk) {
-        GeneralFound::Is(g) => GeneralAnswer::Is(g),
-        GeneralFound::Absent => GeneralAnswer::No(Refusal::NoCategory),
-        GeneralFound::No(x) => GeneralAnswer::No(x),
+        Ok(Some(g)) => Ok(g),
+        Ok(None) => Err(Refusal::NoCategory),
+        Err(x) => Err(x),
     }
 }
 
 // General; not found is absent.
-pub fn find_general(image: &[u8], chunk: Chunk) -> GeneralFound
+pub fn find_general(image: &[u8], chunk: Chunk) -> Result<Option<SiiGeneral>, Refusal>
     ensures { said_found result ≡ general_found image.now }
 {
     match category(image, chunk, GENERAL) {
-        Found::At(g) => general_in(image, chunk, g.byte_pos, g.end),
-        Found::Absent => GeneralFound::Absent,
-        Found::No(x) => GeneralFound::No(x),
+        Ok(Some(g)) => general_in(image, chunk, g.byte_pos, g.end),
+        Ok(None) => Ok(None),
+        Err(x) => Err(x),
     }
 }
 
 // General of a category from at to end.
-fn general_in(image: &[u8], chunk: Chunk, at: u32, end: u32) -> GeneralFound
+fn general_in(image: &[u8], chunk: Chunk, at: u32, end: u32) -> Result<Option<SiiGeneral>, Refusal>
     requires { at ≤ place_most }
     ensures { said_found result ≡ general_in image.now at end }
 {
     if at + GENERAL_BYTES <= end {
         let general = general_at(image, chunk, at);
         if admitted(general) {
-            GeneralFound::Is(general)
+            Ok(Some(general))
         } else {
-            GeneralFound::No(Refusal::Decode)
+            Err(Refusal::Decode)
         }
     } else {
-        GeneralFound::No(Refusal::Overrun)
+        Err(Refusal::Overrun)
     }
 }
 
@@ -344,44 +283,44 @@ fn general_at(image: &[u8], chunk: Chunk, at: u32) -> SiiGeneral
 // ---- General's ports and physical memory address by ETG2010's places
 
 // The kinds of the ports; General not found is refusal 3.
-pub fn physical_ports(image: &[u8], chunk: Chunk) -> PortsAnswer
+pub fn physical_ports(image: &[u8], chunk: Chunk) -> Result<PhysicalPorts, Refusal>
     ensures { said_ports result ≡ ports_said image.now }
 {
     match general_word(image, chunk, PHYSICAL_PORT) {
-        WordAnswer::Word(n) => PortsAnswer::Is(port_kinds(n)),
-        WordAnswer::No(x) => PortsAnswer::No(x),
+        Ok(n) => Ok(port_kinds(n)),
+        Err(x) => Err(x),
     }
 }
 
 // The address of the ESC's memory where the device's identification stands; General not found is refusal 3.
-pub fn physical_memory_address(image: &[u8], chunk: Chunk) -> WordAnswer
+pub fn physical_memory_address(image: &[u8], chunk: Chunk) -> Result<u16, Refusal>
     ensures { said_word result ≡ address_said image.now }
 {
     general_word(image, chunk, PHYSICAL_MEMORY_ADDRESS)
 }
 
 // The number of 16 bits that stands k bytes behind General's first.
-fn general_word(image: &[u8], chunk: Chunk, k: u32) -> WordAnswer
+fn general_word(image: &[u8], chunk: Chunk, k: u32) -> Result<u16, Refusal>
     requires { k ≤ place_most }
     ensures { said_word result ≡ general_word image.now (word k) }
 {
     match category(image, chunk, GENERAL) {
-        Found::At(g) => word_in(image, chunk, g.byte_pos, g.end, k),
-        Found::Absent => WordAnswer::No(Refusal::NoCategory),
-        Found::No(x) => WordAnswer::No(x),
+        Ok(Some(g)) => word_in(image, chunk, g.byte_pos, g.end, k),
+        Ok(None) => Err(Refusal::NoCategory),
+        Err(x) => Err(x),
     }
 }
 
 // .. of a category from at to end.
-fn word_in(image: &[u8], chunk: Chunk, at: u32, end: u32, k: u32) -> WordAnswer
+fn word_in(image: &[u8], chunk: Chunk, at: u32, end: u32, k: u32) -> Result<u16, Refusal>
     requires { (at ≤ place_most) × (k ≤ place_most) }
     ensures { said_word result ≡ word_in image.now (word k) at end }
 {
     let place = at + k;
     if place + WORD_BYTES <= end {
-        WordAnswer::Word(word_of(image, chunk, place))
+        Ok(word_of(image, chunk, place))
     } else {
-        WordAnswer::No(Refusal::Overrun)
+        Err(Refusal::Overrun)
     }
 }
 

@@ -2,16 +2,15 @@
 // The Rust leaves this to its callers. The rule is specs/Row.antt, and the contract `Promised` says that the call follows it; what that comes to is one statement, specs/Demand.antt.
 #![tactic(auto)]
 
-ghost use Rattle.std.specs.Prelude.{◌≡◌, ◌+◌, ◌-◌, ◌*◌, ◌≤◌, [], length, take, drop};
+ghost use Rattle.std.specs.Prelude.{Ok, Err, ◌≡◌, ◌+◌, ◌-◌, ◌*◌, ◌≤◌, [], length, take, drop};
 ghost use Rattle.wire.specs.Bytes.{overlay};
 ghost use Rattle.pdu.specs.Pdu.{area_most};
 ghost use Rattle.created_frame.specs.Frame.{fresh, rest_pushed, rest_builder, rest_next, after_rest};
 ghost use Rattle.created_frame.specs.Answers.{said_rest};
 ghost use Rattle.spread.specs.Answers.{first_of, Promised};
-ghost use Rattle.spread.specs.declared.SpreadAnswer.TheVariants.{Last, No};
 ghost use Rattle.spread.specs.Row.{areas_most, zeroed, row_from, lawful, room_in, padded, Fillable};
 
-use created_frame::{Builder, PDU_OVERHEAD_BYTES, Rest, RestPush};
+use created_frame::{Builder, PDU_OVERHEAD_BYTES, RestPush};
 use pdu::AREA_MOST;
 use refusal::Refusal;
 
@@ -26,19 +25,10 @@ const COMMAND_LAST: u8 = 12;
 
 const ADDRESS_END: usize = 4294967296;
 
-// What a spreading answers.
-#[derive(Clone, Copy)]
-pub enum SpreadAnswer {
-    // The last area's number, from 1; 0 where the image is empty.
-    Last(usize),
-    // 14: size, row, image, command or state out of bounds. 1: the addresses pass the last. 13: no permitted cutting exists.
-    No(Refusal),
-}
-
 // Its answer, the builder's state of each area up to the last, and the index of the next PDU.
 #[derive(Clone, Copy)]
 pub struct Spreading {
-    pub answer: SpreadAnswer,
+    pub answer: Result<usize, Refusal>,
     // The places behind the last area's hold the state of an empty area.
     pub states: [Builder; 32],
     pub next: u8,
@@ -146,24 +136,24 @@ fn no_states() -> [Builder; 32]
 }
 
 fn refused(why: Refusal, index: u8) -> Spreading
-    ensures { result ≡ record { answer = No why; states = padded []; next = index } }
+    ensures { result ≡ record { answer = Err why; states = padded []; next = index } }
 {
     let states = no_states();
     Spreading {
-        answer: SpreadAnswer::No(why),
+        answer: Err(why),
         states,
         next: index,
     }
 }
 
 // How many bytes a push took.
-fn taken_of(r: Rest) -> usize
+fn taken_of(r: Result<Option<(usize, PduResponseHandle)>, Refusal>) -> usize
     ensures { result ≡ first_of (said_rest r) }
 {
     match r {
-        Rest::Done { taken, pdu: _ } => taken,
-        Rest::Absent => 0,
-        Rest::No(_) => 0,
+        Ok(Some((taken, _))) => taken,
+        Ok(None) => 0,
+        Err(_) => 0,
     }
 }
 
@@ -213,7 +203,7 @@ fn carry(
     image: &[u8],
 ) -> Spreading
     requires { Fillable (length areas.old) size count first command address (length image.now) }
-    ensures answer { result.answer ≡ Last (length (row_from size command address count (take size areas.old) first index 0 areas.old image.now).states) }
+    ensures answer { result.answer ≡ Ok (length (row_from size command address count (take size areas.old) first index 0 areas.old image.now).states) }
     ensures state { (result.states ≡ padded (row_from size command address count (take size areas.old) first index 0 areas.old image.now).states)
         × (result.next ≡ (row_from size command address count (take size areas.old) first index 0 areas.old image.now).next) }
     ensures whole { areas.new ≡ (row_from size command address count (take size areas.old) first index 0 areas.old image.now).areas }
@@ -222,7 +212,7 @@ fn carry(
     let mut states = no_states();
     if image.len() == 0 {
         return Spreading {
-            answer: SpreadAnswer::Last(0),
+            answer: Ok(0),
             states,
             next: index,
         };
@@ -248,7 +238,7 @@ fn carry(
         i = p.next;
     }
     Spreading {
-        answer: SpreadAnswer::Last(k),
+        answer: Ok(k),
         states,
         next: i,
     }

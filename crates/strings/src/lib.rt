@@ -11,10 +11,10 @@ ghost use Rattle.strings.specs.Strings.{string_past, passed_one, passed, fitted,
 ghost use Rattle.strings.specs.Names.{name_said, description_said};
 ghost use Rattle.strings.specs.Answers.{said_place, said_string, Small};
 
-use category::{Found, STRINGS, category};
-use eeprom::{ByteAnswer, Chunk, Pos, Range, RangeAnswer, byte_of, image_within};
+use category::{STRINGS, category};
+use eeprom::{Chunk, Pos, Range, byte_of, image_within};
 use refusal::Refusal;
-use sii::{GeneralAnswer, GeneralFound, find_general, general};
+use sii::{find_general, general};
 
 // The most bytes that a room has.
 const ROOM_MOST: usize = 255;
@@ -22,28 +22,13 @@ const ROOM_MOST: usize = 255;
 // The first byte that is not ASCII.
 const ASCII_END: u8 = 0x80;
 
-// What a call on strings answers.
-#[derive(Clone, Copy)]
-pub enum StringAnswer {
-    // The text stands at the front of the room, so many bytes.
-    Length(u16),
-    // There is no such string. The room is as it was, here and below.
-    Absent,
-    // 14: the image or the room is too long. 1 and 2: reading fails. 4: the stored string is longer than the room.
-    // 3 and 5: General is not found, or has undefined bits.
-    No(Refusal),
-}
-
-// Where a string's bytes stand, and how many are stored.
-#[derive(Clone, Copy)]
-enum Place {
-    At(Pos, u16),
-    Absent,
-    No(Refusal),
-}
-
 // Puts the string of an index into the room, and answers its length. Index 0 is absent.
-pub fn find_string(image: &[u8], chunk: Chunk, index: u8, room: &mut [u8]) -> StringAnswer
+pub fn find_string(
+    image: &[u8],
+    chunk: Chunk,
+    index: u8,
+    room: &mut [u8],
+) -> Result<Option<u16>, Refusal>
     ensures said { said_string result ≡ length_said (string_said image.now index (length room.old)) }
     ensures lent { room.new ≡ room_behind (string_said image.now index (length room.old)) room.old }
 {
@@ -52,38 +37,42 @@ pub fn find_string(image: &[u8], chunk: Chunk, index: u8, room: &mut [u8]) -> St
         let place = sought(image, chunk, index, k as u16);
         text(image, chunk, place, room)
     } else {
-        StringAnswer::No(Refusal::BadArgument)
+        Err(Refusal::BadArgument)
     }
 }
 
 // Puts the device's name into the room, and answers its length: the string of General's order index. Absent without General.
-pub fn device_name(image: &[u8], chunk: Chunk, room: &mut [u8]) -> StringAnswer
+pub fn device_name(image: &[u8], chunk: Chunk, room: &mut [u8]) -> Result<Option<u16>, Refusal>
     ensures said { said_string result ≡ length_said (name_said image.now (length room.old)) }
     ensures lent { room.new ≡ room_behind (name_said image.now (length room.old)) room.old }
 {
     if sound(image, room) {
         match find_general(image, chunk) {
-            GeneralFound::Is(g) => find_string(image, chunk, g.order_string_idx, room),
-            GeneralFound::Absent => StringAnswer::Absent,
-            GeneralFound::No(x) => StringAnswer::No(x),
+            Ok(Some(g)) => find_string(image, chunk, g.order_string_idx, room),
+            Ok(None) => Ok(None),
+            Err(x) => Err(x),
         }
     } else {
-        StringAnswer::No(Refusal::BadArgument)
+        Err(Refusal::BadArgument)
     }
 }
 
 // Puts the device's description into the room, and answers its length: the string of General's name index. 3 without General.
-pub fn device_description(image: &[u8], chunk: Chunk, room: &mut [u8]) -> StringAnswer
+pub fn device_description(
+    image: &[u8],
+    chunk: Chunk,
+    room: &mut [u8],
+) -> Result<Option<u16>, Refusal>
     ensures said { said_string result ≡ length_said (description_said image.now (length room.old)) }
     ensures lent { room.new ≡ room_behind (description_said image.now (length room.old)) room.old }
 {
     if sound(image, room) {
         match general(image, chunk) {
-            GeneralAnswer::Is(g) => find_string(image, chunk, g.name_string_idx, room),
-            GeneralAnswer::No(x) => StringAnswer::No(x),
+            Ok(g) => find_string(image, chunk, g.name_string_idx, room),
+            Err(x) => Err(x),
         }
     } else {
-        StringAnswer::No(Refusal::BadArgument)
+        Err(Refusal::BadArgument)
     }
 }
 
@@ -99,32 +88,38 @@ fn sound(image: &[u8], room: &[u8]) -> bool
 }
 
 // Where the string of an index stands.
-fn sought(image: &[u8], chunk: Chunk, index: u8, room: u16) -> Place
+fn sought(image: &[u8], chunk: Chunk, index: u8, room: u16) -> Result<Option<(Pos, u16)>, Refusal>
     ensures { said_place result ≡ sought_at image.now index room }
 {
     if index == 0 {
-        return Place::Absent;
+        return Ok(None);
     }
     match category(image, chunk, STRINGS) {
-        Found::At(g) => in_strings(image, chunk, g, index - 1, room),
-        Found::Absent => Place::Absent,
-        Found::No(x) => Place::No(x),
+        Ok(Some(g)) => in_strings(image, chunk, g, index - 1, room),
+        Ok(None) => Ok(None),
+        Err(x) => Err(x),
     }
 }
 
 // .. in the category, behind the count and s strings.
-fn in_strings(image: &[u8], chunk: Chunk, g: Range, s: u8, room: u16) -> Place
+fn in_strings(
+    image: &[u8],
+    chunk: Chunk,
+    g: Range,
+    s: u8,
+    room: u16,
+) -> Result<Option<(Pos, u16)>, Refusal>
     ensures { said_place result ≡ string_in image.now s room g.byte_pos g.end }
 {
     match g.read_byte(image, chunk) {
-        ByteAnswer::Byte(count, h) => {
+        Ok((count, h)) => {
             if past(s, count) {
-                Place::Absent
+                Ok(None)
             } else {
                 behind(image, chunk, h, s, room)
             }
         }
-        ByteAnswer::No(x) => Place::No(x),
+        Err(x) => Err(x),
     }
 }
 
@@ -136,66 +131,72 @@ fn past(s: u8, count: u8) -> bool
 }
 
 // .. behind s strings.
-fn behind(image: &[u8], chunk: Chunk, g: Range, s: u8, room: u16) -> Place
+fn behind(
+    image: &[u8],
+    chunk: Chunk,
+    g: Range,
+    s: u8,
+    room: u16,
+) -> Result<Option<(Pos, u16)>, Refusal>
     ensures { said_place result ≡ string_behind image.now s room g.byte_pos g.end }
 {
     match pass(image, chunk, g, s) {
-        RangeAnswer::Made(h) => here(image, chunk, h, room),
-        RangeAnswer::No(x) => Place::No(x),
+        Ok(h) => here(image, chunk, h, room),
+        Err(x) => Err(x),
     }
 }
 
 // Passes over s strings.
-fn pass(image: &[u8], chunk: Chunk, g: Range, s: u8) -> RangeAnswer
+fn pass(image: &[u8], chunk: Chunk, g: Range, s: u8) -> Result<Range, Refusal>
     ensures { said_range result ≡ passed s image.now g.byte_pos g.end }
 {
     let mut at = g;
     let mut left = s;
     while 0 < left {
         match pass_one(image, chunk, at) {
-            RangeAnswer::Made(h) => {
+            Ok(h) => {
                 at = h;
             }
-            RangeAnswer::No(x) => {
-                return RangeAnswer::No(x);
+            Err(x) => {
+                return Err(x);
             }
         }
         left -= 1;
     }
-    RangeAnswer::Made(at)
+    Ok(at)
 }
 
 // Reads a length and skips it.
-fn pass_one(image: &[u8], chunk: Chunk, g: Range) -> RangeAnswer
+fn pass_one(image: &[u8], chunk: Chunk, g: Range) -> Result<Range, Refusal>
     ensures { said_range result ≡ passed_one image.now g.byte_pos g.end }
 {
     match g.read_byte(image, chunk) {
-        ByteAnswer::Byte(n, h) => h.skip_ahead_bytes(n as u16),
-        ByteAnswer::No(x) => RangeAnswer::No(x),
+        Ok((n, h)) => h.skip_ahead_bytes(n as u16),
+        Err(x) => Err(x),
     }
 }
 
 // Reads a length; the bytes stand behind it.
-fn here(image: &[u8], chunk: Chunk, g: Range, room: u16) -> Place
+fn here(image: &[u8], chunk: Chunk, g: Range, room: u16) -> Result<Option<(Pos, u16)>, Refusal>
     ensures { said_place result ≡ string_here image.now room g.byte_pos g.end }
 {
     match g.read_byte(image, chunk) {
-        ByteAnswer::Byte(n, h) => fit(room, n as u16, h.byte_pos, h.end),
-        ByteAnswer::No(x) => Place::No(x),
+        Ok((n, h)) => fit(room, n as u16, h.byte_pos, h.end),
+        Err(x) => Err(x),
     }
 }
 
 // n bytes from pos on, for a room: an exact read of an image and a range within their bounds.
-fn fit(room: u16, n: u16, pos: Pos, end: Pos) -> Place
+fn fit(room: u16, n: u16, pos: Pos, end: Pos) -> Result<Option<(Pos, u16)>, Refusal>
     ensures { (image : List ℕ) → fine image pos end ≡ true → said_place result ≡ fitted image room n pos end }
 {
     if room < n {
-        return Place::No(Refusal::StringTooLong { room, stored: n });
+        return Err(Refusal::StringTooLong { room, stored: n });
     }
     if (n as Pos) <= remaining(pos, end) {
-        Place::At(pos, n)
+        Ok(Some((pos, n)))
     } else {
-        Place::No(Refusal::Overrun)
+        Err(Refusal::Overrun)
     }
 }
 
@@ -207,18 +208,23 @@ fn remaining(pos: Pos, end: Pos) -> Pos
 }
 
 // The text at a place goes to the front of the room.
-fn text(image: &[u8], chunk: Chunk, place: Place, room: &mut [u8]) -> StringAnswer
+fn text(
+    image: &[u8],
+    chunk: Chunk,
+    place: Result<Option<(Pos, u16)>, Refusal>,
+    room: &mut [u8],
+) -> Result<Option<u16>, Refusal>
     requires { (length room.old ≤ room_most) × Small (length room.old) (said_place place) }
     ensures said { said_string result ≡ length_said (text_said image.now (said_place place)) }
     ensures lent { room.new ≡ room_behind (text_said image.now (said_place place)) room.old }
 {
     match place {
-        Place::At(p, n) => {
+        Ok(Some((p, n))) => {
             let k = lay_text(image, chunk, p, n as u32, room);
-            StringAnswer::Length(k as u16)
+            Ok(Some(k as u16))
         }
-        Place::Absent => StringAnswer::Absent,
-        Place::No(x) => StringAnswer::No(x),
+        Ok(None) => Ok(None),
+        Err(x) => Err(x),
     }
 }
 
