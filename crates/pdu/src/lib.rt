@@ -5,7 +5,7 @@
 ghost use Rattle.std.specs.Prelude.{◌≡◌, ◌%◌, ◌≤◌};
 ghost use Rattle.pdu.specs.Pdu.{area_most, header_of, frame_header};
 ghost use Rattle.pdu.specs.Read.{length_of, rightly};
-ghost use Rattle.pdu.specs.Answers.{said_header, header_said, header_left, pdu_values};
+ghost use Rattle.pdu.specs.Answers.{said_header, header_bytes_of, header_said, header_left, pdu_values};
 
 use refusal::Refusal;
 use wire::flag;
@@ -60,22 +60,6 @@ pub struct PduFields {
     pub counter: u16,
 }
 
-// What packing a frame's header answers.
-#[derive(Clone, Copy)]
-pub enum HeaderAnswer {
-    // The two bytes are the header.
-    Header,
-    // 14: more than 2,047 bytes used.
-    No(Refusal),
-}
-
-// The answer and the two bytes, which are zero where it is a refusal.
-#[derive(Clone, Copy)]
-pub struct FrameHead {
-    pub answer: HeaderAnswer,
-    pub bytes: [u8; 2],
-}
-
 // A PDU's ten header bytes: no flag is set and the IRQ field is 0. Of the length the 11 bits are taken that the header has for it.
 pub fn pack_header(command: u8, index: u8, address: u32, len: u16) -> [u8; 10]
     ensures { result ≡ header_of command index address (length_of len) 0 }
@@ -103,22 +87,15 @@ fn packed_frame_header(used: usize) -> [u8; 2]
     [(w % 256) as u8, (w / 256 % 256) as u8]
 }
 
-// The header of a frame whose PDUs take this many bytes.
-pub fn frame_header(used: usize) -> FrameHead
-    ensures { (said_header result.answer ≡ header_said used) × (result.bytes ≡ header_left used) }
+// The header of a frame whose PDUs take this many bytes. More than 2,047 are refused with 14.
+#[tactic(auto, using(refusal::proofs::Tests::tests), unfolding(crate::specs::Answers::header_said, crate::specs::Answers::header_left))]
+pub fn frame_header(used: usize) -> Result<[u8; 2], Refusal>
+    ensures { (said_header result ≡ header_said used) × (header_bytes_of result ≡ header_left used) }
 {
-    if used <= AREA_MOST {
-        let bytes = packed_frame_header(used);
-        FrameHead {
-            answer: HeaderAnswer::Header,
-            bytes,
-        }
-    } else {
-        FrameHead {
-            answer: HeaderAnswer::No(Refusal::BadArgument),
-            bytes: [0, 0],
-        }
+    if used > AREA_MOST {
+        return Err(Refusal::BadArgument);
     }
+    Ok(packed_frame_header(used))
 }
 
 // A PDU's fields as a row of numbers, in the order of the record; a flag is 1 or 0.
