@@ -2,8 +2,8 @@
 // RULES, frames. The builder and the reader share the definitions in specs/ and the record of a PDU's fields.
 #![tactic(auto)]
 
-ghost use Rattle.std.specs.Prelude.{◌≡◌, ◌%◌, ◌≤◌};
-ghost use Rattle.pdu.specs.Pdu.{area_most, header_of, frame_header};
+ghost use Rattle.std.specs.Prelude.{◌≡◌};
+ghost use Rattle.pdu.specs.Pdu.{header_of};
 ghost use Rattle.pdu.specs.Read.{length_of, rightly};
 ghost use Rattle.pdu.specs.Answers.{said_header, header_bytes_of, header_said, header_left, pdu_values};
 
@@ -65,26 +65,9 @@ pub fn pack_header(command: u8, index: u8, address: u32, len: u16) -> [u8; 10]
     ensures { result ≡ header_of command index address (length_of len) 0 }
 {
     let n = len % LENGTH_PAST;
-    [
-        command,
-        index,
-        (address % 256) as u8,
-        (address / 256 % 256) as u8,
-        (address / 65536 % 256) as u8,
-        (address / 16777216 % 256) as u8,
-        (n % 256) as u8,
-        (n / 256 % 256) as u8,
-        0,
-        0,
-    ]
-}
-
-fn packed_frame_header(used: usize) -> [u8; 2]
-    requires { used ≤ area_most }
-    ensures { result ≡ frame_header used }
-{
-    let w = used + (TYPE_BIT as usize);
-    [(w % 256) as u8, (w / 256 % 256) as u8]
+    let [a0, a1, a2, a3] = address.to_le_bytes();
+    let [low, high] = n.to_le_bytes();
+    [command, index, a0, a1, a2, a3, low, high, 0, 0]
 }
 
 // The header of a frame whose PDUs take this many bytes. More than 2,047 are refused with 14.
@@ -95,7 +78,7 @@ pub fn frame_header(used: usize) -> Result<[u8; 2], Refusal>
     if used > AREA_MOST {
         return Err(Refusal::BadArgument);
     }
-    Ok(packed_frame_header(used))
+    Ok(((used as u16) + TYPE_BIT).to_le_bytes())
 }
 
 // A PDU's fields as a row of numbers, in the order of the record; a flag is 1 or 0.
