@@ -2,14 +2,15 @@
 // Follows src/eeprom/mod.rs (`EepromDataProvider`, `EepromRange`) and RULES, range.
 #![tactic(auto)]
 
-ghost use Rattle.std.specs.Prelude.{◌≡◌, [], ◌∷◌, ◌+◌, ◌-◌, ◌*◌, ◌%◌, ◌≤◌, ◌<◌, length, get_or};
+ghost use Rattle.std.specs.Prelude.{MatchResult, true, false, ◌≡◌, [], ◌∷◌, ◌+◌, ◌-◌, ◌*◌, ◌%◌, ◌≤◌, ◌<◌, length, get_or};
+ghost use Rattle.refusal.specs.declared.Refusal.TheVariants as Refusal;
 ghost use Rattle.wire.specs.Bytes.{byte_at, le16, le32, span, filled, overlay};
 ghost use Rattle.eeprom.specs.Image.{image_most, long_most, far_most, within, in_bounds, fine, width_of, chunk_of};
-ghost use Rattle.eeprom.specs.Range.{new_said, start_said, byte_in, byte_said, skip_said, read_said, read_buf, all_said, exact_said, exact_range, exact_buf, words_written, words_laid, write_in, write_said, write_range, write_image};
+ghost use Rattle.eeprom.specs.Range.{standing, new_said, start_said, byte_in, byte_said, skip_said, read_said, read_buf, all_said, exact_said, exact_range, exact_buf, words_written, words_laid, write_in, write_said, write_range, write_image};
 ghost use Rattle.eeprom.specs.Answers.{said_range, said_byte, said_reading, said_exact, said_writing};
 
 use refusal::Refusal;
-use wire::{byte_at, lay, lesser, word_at};
+use wire::{byte_at, lay, word_at};
 
 // The width of a chunk.
 #[derive(Clone, Copy)]
@@ -51,31 +52,33 @@ pub const IMAGE_MOST: usize = 131072;
 const POS_MOST: Pos = IMAGE_MOST as Pos;
 
 // The image has no more bytes than it may.
+#[tactic(auto, unfolding(crate::specs::Image::within))]
 pub fn image_within(image: &[u8]) -> bool
     ensures { result ≡ within image.now }
 {
     image.len() <= IMAGE_MOST
 }
 
-// How many bytes a chunk has.
-fn width(chunk: Chunk) -> usize
-    ensures { result ≡ width_of chunk }
-{
-    match chunk {
-        Chunk::Four => 4,
-        Chunk::Eight => 8,
+impl Chunk {
+    // How many bytes a chunk has.
+    fn width(self) -> usize
+        ensures { result ≡ width_of self }
+    {
+        match self {
+            Chunk::Four => 4,
+            Chunk::Eight => 8,
+        }
     }
 }
 
 // Copies n bytes of the image, from pos on, to the front of buf.
+#[tactic(auto, using(wire::proofs::Laws::filled_more, wire::proofs::Laws::filled_none))]
 fn copy_out(image: &[u8], pos: usize, n: usize, buf: &mut [u8])
     requires { (n ≤ length buf.old) × (pos + n ≤ far_most) }
     ensures { buf.new ≡ filled image.now pos n buf.old }
 {
-    let mut i = 0;
-    while i < n {
+    for i in 0..n {
         buf[i] = byte_at(image, pos + i);
-        i += 1;
     }
 }
 
@@ -85,7 +88,7 @@ pub fn read_chunk(image: &[u8], start_word: u32, chunk: Chunk) -> [u8; 8]
     ensures { result ≡ chunk_of image.now start_word (width_of chunk) }
 {
     let mut bytes = [0u8; 8];
-    copy_out(image, 2 * (start_word as usize), width(chunk), &mut bytes);
+    copy_out(image, 2 * (start_word as usize), chunk.width(), &mut bytes);
     bytes
 }
 
@@ -125,6 +128,7 @@ pub fn long_of(image: &[u8], chunk: Chunk, i: u32) -> u32
 
 impl Range {
     // The range from a word on, for a number of words.
+    #[tactic(auto, unfolding(crate::specs::Range::new_said))]
     pub fn new(start_word: u16, len_words: u16) -> Result<Range, Refusal>
         ensures { said_range result ≡ new_said start_word len_words }
     {
@@ -141,66 +145,48 @@ impl Range {
     }
 
     // The range from a word on, for a length in bytes, of which an odd one is dropped.
+    #[tactic(auto, unfolding(crate::specs::Range::start_said))]
     pub fn start_at(word_addr: u16, len_bytes: u16) -> Result<Range, Refusal>
         ensures { said_range result ≡ start_said word_addr len_bytes }
     {
         Range::new(word_addr, len_bytes / 2)
     }
 
-    // The range some bytes on, which must be before its end.
+    // The range some bytes on, which must be before its end. Refuses 14, then 2.
+    #[tactic(auto, unfolding(crate::specs::Range::skip_said, crate::specs::Range::skip_in))]
     pub fn skip_ahead_bytes(self, skip: u16) -> Result<Range, Refusal>
         ensures { said_range result ≡ skip_said self.byte_pos self.end skip }
     {
-        let pos = self.byte_pos;
-        let end = self.end;
-        if in_bounds(pos, end) {
-            let to = (pos as u64) + (skip as u64);
-            if to < (end as u64) {
-                Ok(Range {
-                    byte_pos: to as Pos,
-                    end,
-                })
-            } else {
-                Err(Refusal::Overrun)
-            }
+        if !self.is_in_bounds() {
+            return Err(Refusal::BadArgument);
+        }
+        let to = (self.byte_pos as u64) + (skip as u64);
+        if to < (self.end as u64) {
+            Ok(self.moved_to(to as Pos))
         } else {
-            Err(Refusal::BadArgument)
+            Err(Refusal::Overrun)
         }
     }
 
     // The byte at the position, and the range after it. Refuses 14, then 2 at the end and past it, then 1, which is never met.
+    #[tactic(auto, unfolding(crate::specs::Range::byte_said))]
     pub fn read_byte(self, image: &[u8], chunk: Chunk) -> Result<(u8, Range), Refusal>
         ensures { said_byte result ≡ byte_said image.now self.byte_pos self.end }
     {
-        let pos = self.byte_pos;
-        let end = self.end;
-        if sound(image, pos, end) {
-            byte_in(image, chunk, pos, end)
-        } else {
-            Err(Refusal::BadArgument)
-        }
+        self.checked(image)?;
+        self.byte_in(image, chunk)
     }
 
-    // Reads into buf what there is of the range.
+    // Reads into buf what there is of the range, and answers how many bytes, and the range after them. Refuses 14.
+    #[tactic(auto, unfolding(crate::specs::Range::read_said, crate::specs::Range::read_buf))]
     pub fn read(self, image: &[u8], chunk: Chunk, buf: &mut [u8]) -> Result<(Pos, Range), Refusal>
         ensures said { said_reading result ≡ read_said image.now self.byte_pos self.end (length buf.old) }
         ensures lent { buf.new ≡ read_buf image.now self.byte_pos self.end buf.old }
     {
-        let pos = self.byte_pos;
-        let end = self.end;
-        if sound(image, pos, end) {
-            let n = lesser(buf.len(), left(pos, end));
-            read_chunks(image, chunk, pos, n, buf);
-            Ok((
-                n as Pos,
-                Range {
-                    byte_pos: pos + (n as Pos),
-                    end,
-                },
-            ))
-        } else {
-            Err(Refusal::BadArgument)
-        }
+        self.checked(image)?;
+        let n = buf.len().min(self.left());
+        read_chunks(image, chunk, self.byte_pos, n, buf);
+        Ok((n as Pos, self.moved_to(self.byte_pos + (n as Pos))))
     }
 
     // Reads into the whole of buf; where the range has less, into as much of it. Refuses 14, then 2, which stands at the end.
@@ -222,65 +208,72 @@ impl Range {
         }
     }
 
-    // Writes the bytes as words, while the position is before the end. Refuses 14, then 1, then 7; these two keep the words already written and stand after them.
+    // Writes the bytes as words, while the position is before the end, and answers how many bytes, the padding counted.
+    // Refuses 14; then, word by word, 1: the next position would pass the limit, and 7: the word is not wholly in the image. These two keep the words already written and stand after them.
     pub fn write(self, image: &mut [u8], bytes: &[u8]) -> WordsWritten
         ensures said { said_writing result.answer ≡ write_said image.old self.byte_pos self.end bytes.now }
         ensures stands { result.range ≡ write_range image.old self bytes.now }
         ensures lent { image.new ≡ write_image image.old self.byte_pos self.end bytes.now }
     {
-        let pos = self.byte_pos;
-        let end = self.end;
-        if sound(image, pos, end) {
-            write_words(image, pos, end, bytes)
-        } else {
-            WordsWritten {
-                answer: Err(Refusal::BadArgument),
+        match self.checked(image) {
+            Ok(()) => write_words(image, self.byte_pos, self.end, bytes),
+            Err(x) => WordsWritten {
+                answer: Err(x),
                 range: self,
-            }
+            },
         }
     }
-}
 
-// Position and end are within the limit, and the end is even.
-fn in_bounds(pos: Pos, end: Pos) -> bool
-    ensures { result ≡ in_bounds pos end }
-{
-    if pos <= POS_MOST {
-        if end % 2 == 0 { end <= POS_MOST } else { false }
-    } else {
-        false
+    // The range, at another position.
+    fn moved_to(self, byte_pos: Pos) -> Range
+        ensures { result ≡ standing self byte_pos }
+    {
+        Range {
+            byte_pos,
+            end: self.end,
+        }
     }
-}
 
-// .. and the image is not too long.
-fn sound(image: &[u8], pos: Pos, end: Pos) -> bool
-    ensures { result ≡ fine image.now pos end }
-{
-    if image_within(image) {
-        in_bounds(pos, end)
-    } else {
-        false
+    // Position and end are within the limit, and the end is even.
+    #[tactic(auto, unfolding(crate::specs::Image::in_bounds))]
+    fn is_in_bounds(self) -> bool
+        ensures { result ≡ in_bounds self.byte_pos self.end }
+    {
+        self.byte_pos <= POS_MOST && self.end % 2 == 0 && self.end <= POS_MOST
     }
-}
 
-// The byte at a position, which must lie before the end (2), and below the largest position (1). No end lies above that, so 1 is never met (`byte_never_1`).
-fn byte_in(image: &[u8], chunk: Chunk, pos: Pos, end: Pos) -> Result<(u8, Range), Refusal>
-    ensures { said_byte result ≡ byte_in image.now pos end }
-{
-    if pos >= end {
-        return Err(Refusal::Overrun);
+    // .. and the image is not too long: else 14.
+    #[tactic(auto, unfolding(crate::specs::Image::fine))]
+    fn checked(self, image: &[u8]) -> Result<(), Refusal>
+        ensures { MatchResult result (λ _. fine image.now self.byte_pos self.end ≡ true) (λ x. (x ≡ Refusal.BadArgument) × (fine image.now self.byte_pos self.end ≡ false)) }
+    {
+        if image_within(image) && self.is_in_bounds() {
+            Ok(())
+        } else {
+            Err(Refusal::BadArgument)
+        }
     }
-    if pos < POS_MOST {
-        let next = pos + 1;
-        Ok((
-            byte_of(image, chunk, pos),
-            Range {
-                byte_pos: next,
-                end,
-            },
-        ))
-    } else {
-        Err(Refusal::Address)
+
+    // The byte at the position, which must lie before the end (2), and below the largest position (1). No end lies above that, so 1 is never met (`byte_never_1`).
+    #[tactic(auto, unfolding(crate::specs::Range::byte_in))]
+    fn byte_in(self, image: &[u8], chunk: Chunk) -> Result<(u8, Range), Refusal>
+        ensures { said_byte result ≡ byte_in image.now self.byte_pos self.end }
+    {
+        let pos = self.byte_pos;
+        if pos >= self.end {
+            return Err(Refusal::Overrun);
+        }
+        if pos >= POS_MOST {
+            return Err(Refusal::Address);
+        }
+        Ok((byte_of(image, chunk, pos), self.moved_to(pos + 1)))
+    }
+
+    // How many bytes are left of the range.
+    fn left(self) -> usize
+        ensures { result ≡ self.end - self.byte_pos }
+    {
+        self.end.saturating_sub(self.byte_pos) as usize
     }
 }
 
@@ -289,13 +282,6 @@ fn all_of(n: usize, k: usize) -> Result<(), Refusal>
     ensures { said_exact result ≡ all_said n k }
 {
     if n < k { Err(Refusal::Overrun) } else { Ok(()) }
-}
-
-// How many bytes are left of a range.
-fn left(pos: Pos, end: Pos) -> usize
-    ensures { result ≡ end - pos }
-{
-    if pos < end { (end - pos) as usize } else { 0 }
 }
 
 // Lays m bytes of one chunk, the image's from pos on, over buf from at on.
@@ -313,11 +299,11 @@ fn read_chunks(image: &[u8], chunk: Chunk, pos: u32, n: usize, buf: &mut [u8])
     requires { (n ≤ length buf.old) × (pos + n ≤ long_most) }
     ensures { buf.new ≡ filled image.now pos n buf.old }
 {
-    let wide = width(chunk);
+    let wide = chunk.width();
     let mut done = 0;
     while done < n {
         let at = pos + (done as u32);
-        let m = lesser(wide - (at % 2) as usize, n - done);
+        let m = (wide - (at % 2) as usize).min(n - done);
         lay_chunk(image, chunk, at, m, buf, done);
         done += m;
     }
@@ -327,7 +313,7 @@ fn read_chunks(image: &[u8], chunk: Chunk, pos: u32, n: usize, buf: &mut [u8])
 fn or_pad(bytes: &[u8], i: usize) -> u8
     ensures { result ≡ get_or bytes.now i 0 }
 {
-    if i < bytes.len() { bytes[i] } else { 0 }
+    bytes.get(i).copied().unwrap_or(0)
 }
 
 // Writes a word.

@@ -6,7 +6,8 @@ use mathlib.Core.List.{List}
 use lib.ListN.{length}
 use Rattle.refusal.specs.Said.{Said}
 use Rattle.eeprom.specs.Answers.{said_writing}
-use Rattle.eeprom.specs.declared.Writing.{Writing}
+use Rattle.std.specs.Prelude.{Result}
+use Rattle.refusal.specs.declared.Refusal.{Refusal}
 use Rattle.eeprom.specs.declared.WordsWritten.{WordsWritten}
 use Rattle.eeprom.specs.Range.{words_laid, words_asked}
 use Rattle.eeprom.proofs.Words.{bytes_laid, none-laid, word-laid, written-more, written_all, written_limit, written_stop, asked_end, asked_data}
@@ -14,7 +15,7 @@ use Rattle.eeprom.proofs.write_words.Goals as goal
 use Rattle.eeprom.proofs.write_words.Goals.{then-loop-at-test+else-n-bytes, else-loop-at-test}
 
 -- a way out: what a write done says, where it stands and ends, and what is laid, where n bytes are m words
-leaves : (image₀ image bytes : List ℕ) (pos end at n m : ℕ) (answer : Writing) (w : WordsWritten) (s : Said) → w ≡ record { answer = answer; range = record { byte_pos = at; end = end } }
+leaves : (image₀ image bytes : List ℕ) (pos end at n m : ℕ) (answer : Result ℕ Refusal) (w : WordsWritten) (s : Said) → w ≡ record { answer = answer; range = record { byte_pos = at; end = end } }
     → image ≡ bytes_laid image₀ pos n bytes → at ≡ pos + n → (n ≡ 2 * m) × (s ≡ said_writing answer)
     → (said_writing w.answer ≡ s) × (((w.range.byte_pos ≡ pos + 2 * m) × (w.range.end ≡ end)) × (image ≡ words_laid image₀ pos m bytes))
 unfolding words_laid
