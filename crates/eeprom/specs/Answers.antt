@@ -1,6 +1,6 @@
 -- What each answer says, in numbers and values (RULES, refusals). A range is said by its position and its end.
 use Rattle.std.specs.Prelude.{ℕ, List, [], ◌∷◌, Result, ⊤}
-use Rattle.refusal.specs.Said.{Said, said, number_value, nothing}
+use Rattle.refusal.specs.Said.{Said, said, number_value, no_values}
 use Rattle.refusal.specs.declared.Refusal.{Refusal}
 use Rattle.eeprom.specs.declared.Range.{Range}
 
@@ -25,7 +25,7 @@ said_reading = said behind_values
 
 -- done is said with no values; where the range stands is beside the answer
 abbrev pub said_exact : Result ⊤ Refusal → Said
-said_exact = said nothing
+said_exact = said no_values
 
 -- how many bytes were written; where the range stands is beside the answer
 abbrev pub said_writing : Result ℕ Refusal → Said

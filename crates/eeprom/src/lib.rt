@@ -210,6 +210,7 @@ impl Range {
 
     // Writes the bytes as words, while the position is before the end, and answers how many bytes, the padding counted.
     // Refuses 14; then, word by word, 1: the next position would pass the limit, and 7: the word is not wholly in the image. These two keep the words already written and stand after them.
+    #[tactic(auto, unfolding(crate::specs::Range::write_said, crate::specs::Range::write_pos, crate::specs::Range::write_image))]
     pub fn write(self, image: &mut [u8], bytes: &[u8]) -> WordsWritten
         ensures said { said_writing result.answer ≡ write_said image.old self.byte_pos self.end bytes.now }
         ensures stands { result.range ≡ write_range image.old self bytes.now }
