@@ -3,12 +3,12 @@ use Prim.Native.Nat.{ℕ, zero, suc, ◌+◌, ◌-◌, ◌*◌, ◌/◌, ◌%◌
 use native.Mathlib.Nat.{zero-add, add-zero, add-suc, suc-add, add_assoc, min-zero}
 use native.Mathlib.Numerals.{add-one, unary_clauses}
 use native.Mathlib.Omega.{arith}
-use mathlib.Core.Path.{◌≡◌, refl, sym, ap, ◌∙◌}
+use mathlib.Core.Path.{◌≡◌, refl, sym, ap}
 use mathlib.Core.Bool.{Bool, true, false}
 use mathlib.Core.List.{List, [], ◌∷◌, ◌++◌, append_assoc, append-nil}
 use lib.Dec.{leb, ltb}
 use lib.ListN.{length, get_or, set, take, drop, length-append, length-take, length-drop, get_or-eq_default, take-append-drop}
-use lib.Seq.{drop-cons, set_at, take_at, drop_at, drop-drop, take_all, take-nil, take-append-le, take-append-add, get_or-append-add}
+use lib.Seq.{drop-cons, set_at, take_at, drop_at, drop-drop, take_all, take-nil, take-append-le, take-append-add, get_or-append-add, get_or-drop}
 use borrow.Author.Tests.{ltb-true, ltb-false, leb-true, leb-false}
 use borrow.Rule.Slice.PartMut.{put_mid}
 use Rattle.wire.specs.Bytes.{byte_at, le16, le32, bytes16, bytes32, Bytes, span, filled, overlay, laid}
@@ -30,6 +30,11 @@ byte-out s i h = sym (get_or-eq_default s 255 h)
 pub byte-behind : (pre t : List ℕ) (k : ℕ) → byte_at (pre ++ t) (length pre + k) ≡ byte_at t k
 unfolding byte_at
 byte-behind pre t k = get_or-append-add pre t k 255
+
+-- .. and of what stands from i on as far on
+pub byte_dropped : (s : List ℕ) (i k : ℕ) → byte_at (drop i s) k ≡ byte_at s (i + k)
+unfolding byte_at
+byte_dropped s i k = get_or-drop i s k 255
 
 -- the elements of a lent slice are bytes, so those of its list are
 pub bytes-known : (s : List ℕ) → ((i : ℕ) → get_or s i 0 < 256) → Bytes s
@@ -62,33 +67,6 @@ bytes32-back n h =
     let low : n % 256 + 256 * (n / 256 % 256) ≡ n % 65536 = omega arith in
     let high : n / 65536 % 256 + 256 * (n / 16777216) ≡ n / 65536 = omega arith in
     rw top (omega (arith, low, high))
-
--- ---- the place after another, past the end too
-
--- r reads as the place after i, and so do all that follow
-abbrev After : List ℕ → ℕ → ℕ → Type 0
-After s i r = (k : ℕ) → byte_at s (r + k) ≡ byte_at s (i + (k + 1))
-
-pub after-inside : (s : List ℕ) (i : ℕ) → After s i (i + 1)
-after-inside s i k =
-    let e : i + 1 + k ≡ i + (k + 1) = omega arith in
-    ap (byte_at s) e
-
-pub after_outside : (s : List ℕ) (i : ℕ) → length s ≤ i → After s i i
-after_outside s i h k = sym (byte-out s (i + k) (omega arith)) ∙ byte-out s (i + (k + 1)) (omega arith)
-
-pub after-byte : (s : List ℕ) (i r : ℕ) → After s i r → byte_at s r ≡ byte_at s (i + 1)
-after-byte s i r a =
-    let e : r + 0 ≡ r = omega arith in
-    let f : i + (0 + 1) ≡ i + 1 = omega arith in
-    sym (ap (byte_at s) e) ∙ a 0 ∙ ap (byte_at s) f
-
--- two steps on, a word reads the same
-pub after-word : (s : List ℕ) (i q r : ℕ) → After s i q → After s q r → le16 s r ≡ le16 s (i + 2)
-after-word s i q r a b =
-    let x : byte_at s r ≡ byte_at s (i + 2) = after-byte s q r b ∙ a 1 ∙ (let e : i + (1 + 1) ≡ i + 2 = omega arith in ap (byte_at s) e) in
-    let y : byte_at s (r + 1) ≡ byte_at s (i + 2 + 1) = b 1 ∙ a 2 ∙ (let e : i + (2 + 1) ≡ i + 2 + 1 = omega arith in ap (byte_at s) e) in
-    rw (x, y) refl
 
 -- ---- a stretch of bytes, and a buffer filled from it
 

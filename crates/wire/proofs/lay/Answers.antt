@@ -1,12 +1,14 @@
 -- `wire::lay` copies the smaller of what there is and what has room.
 use mathlib.Core.Path.{sym}
-use Rattle.wire.proofs.Laws.{laid-least, laid-past}
+use native.Mathlib.Omega.{arith}
+use lib.ListN.{length-take, length-drop}
+use Rattle.wire.proofs.Laws.{laid-least, laid-past, overlay_part}
 use Rattle.wire.proofs.lay.Goals as goal
 
 pub returns-then-at-dst : goal.returns-then-at-dst
 returns-then-at-dst c =
     let a = c.args in
-    laid-least a.dst.now a.at a.src.now _ _ c.lesser-n.ensures c.copy_in.ensures
+    laid-least a.dst.now a.at a.src.now _ _ c.min-n.ensures (overlay_part a.at _ a.dst.now _ _ c.copy_from_slice.ensures.after (rw (c.copy_from_slice.ensures.len, length-take, length-drop) (omega arith)))
 
 pub returns-else-at-dst : goal.returns-else-at-dst
 returns-else-at-dst c =
