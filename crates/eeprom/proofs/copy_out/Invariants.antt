@@ -1,5 +1,4 @@
 -- `eeprom::copy_out` fills the buffer: after i turns its first i bytes are the image's, and the rest is as it was.
-use Prim.Native.Nat.{◌≤◌, ◌-◌}
 use mathlib.Core.Path.{◌≡◌}
 use lib.ListN.{length}
 use Rattle.wire.specs.Bytes.{filled}

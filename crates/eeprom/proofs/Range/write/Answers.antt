@@ -1,5 +1,4 @@
 -- `Range::write` tests its arguments and calls `write_words`.
-use mathlib.Core.Path.{sym}
 use Rattle.eeprom.specs.Range.{write_said, write_pos, write_image}
 use Rattle.eeprom.proofs.Laws.{bounds_of, fine-bounds}
 use Rattle.eeprom.proofs.Range.write.Goals as goal
