@@ -5,8 +5,8 @@
 ghost use Rattle.std.specs.Prelude.{◌≡◌, true, ◌≤◌, ◌<◌, length};
 ghost use Rattle.io.specs.Digits.{hex_digit_ascii as glyphOf};
 ghost use Rattle.wire.specs.Bytes.{laid};
-ghost use Rattle.lines.specs.Words.{word_end, word_at};
-ghost use Rattle.lines.specs.Numbers.{said_number, digit_of, number_from, number_said, decimal_of};
+ghost use Rattle.lines.specs.Words.{word_length, word_end, word_at};
+ghost use Rattle.lines.specs.Numbers.{said_number, digit_of, below, number_from, number_said, decimal_of};
 ghost use Rattle.lines.specs.Pairs.{
   said_hex,
   nibble_of,
@@ -21,42 +21,38 @@ ghost use Rattle.lines.specs.Pairs.{
 };
 ghost use Rattle.lines.specs.Places.{after};
 
+// How many bytes stand before the first space; all, if there is none.
+fn word_length(line: &[u8]) -> usize
+    ensures { result ≡ word_length line.now }
+{
+    line.iter().position(|b| *b == b' ').unwrap_or(line.len())
+}
+
 // The end of the word that starts at from.
 pub fn word_end(line: &[u8], from: usize) -> usize
     ensures { result ≡ word_end line.now from }
 {
-    let mut i = from;
-    while i < line.len() {
-        if line[i] == b' ' {
-            return i;
-        }
-        i += 1;
+    match line.get(from..) {
+        Some(rest) => from + word_length(rest),
+        None => from,
     }
-    i
 }
 
 // The word that starts at from; an empty one past the line's end.
 pub fn word(line: &[u8], from: usize) -> &[u8]
     ensures { result.now ≡ word_at line.now from }
 {
-    let end = word_end(line, from);
-    if from < line.len() {
-        &line[from..end]
-    } else {
-        &line[..0]
-    }
+    line.get(from..word_end(line, from)).unwrap_or(&[])
 }
 
-// The value of a decimal digit; 10 of any other byte.
-fn digit(b: u8) -> u64
-    ensures { result ≡ digit_of b }
+// The value of a decimal digit.
+#[tactic(auto, using(crate::proofs::Laws::digits), unfolding(crate::specs::Numbers::digit_of))]
+fn digit(b: u8) -> Option<u8>
+    ensures { result ≡ below 10 (digit_of b) }
 {
-    if b < 48 {
-        10
-    } else if b < 58 {
-        (b - 48) as u64
-    } else {
-        10
+    match b {
+        b'0'..=b'9' => Some(b - b'0'),
+        _ => None,
     }
 }
 
@@ -68,17 +64,11 @@ fn run(word: &[u8]) -> Option<u64>
     ensures { said_number result ≡ number_from 0 word.now }
 {
     let mut v: u64 = 0;
-    let mut i = 0;
-    while i < word.len() {
-        let d = digit(word[i]);
-        if 9 < d {
-            return None;
-        }
-        v = 10 * v + d;
+    for b in word {
+        v = 10 * v + u64::from(digit(*b)?);
         if NUMBER_MOST < v {
             return None;
         }
-        i += 1;
     }
     Some(v)
 }
@@ -87,23 +77,18 @@ fn run(word: &[u8]) -> Option<u64>
 pub fn number(word: &[u8]) -> Option<u64>
     ensures { said_number result ≡ number_said word.now }
 {
-    if word.len() == 0 { None } else { run(word) }
+    if word.is_empty() { None } else { run(word) }
 }
 
-// The value of a hex digit in lower case; 16 of any other byte.
-fn nibble(b: u8) -> u8
-    ensures { result ≡ nibble_of b }
+// The value of a hex digit in lower case.
+#[tactic(auto, using(crate::proofs::Laws::digits), unfolding(crate::specs::Pairs::nibble_of))]
+fn nibble(b: u8) -> Option<u8>
+    ensures { result ≡ below 16 (nibble_of b) }
 {
-    if b < 48 {
-        16
-    } else if b < 58 {
-        b - 48
-    } else if b < 97 {
-        16
-    } else if b < 103 {
-        b - 87
-    } else {
-        16
+    match b {
+        b'0'..=b'9' => Some(b - b'0'),
+        b'a'..=b'f' => Some(b - b'a' + 10),
+        _ => None,
     }
 }
 
@@ -111,26 +96,18 @@ fn nibble(b: u8) -> u8
 fn all_hex(word: &[u8]) -> bool
     ensures { result ≡ all_hex word.now }
 {
-    let mut i = 0;
-    while i < word.len() {
-        if 15 < nibble(word[i]) {
-            return false;
-        }
-        i += 1;
-    }
-    true
+    word.iter().all(|b| nibble(*b).is_some())
 }
 
 // Whether a word is BYTES.
+#[tactic(auto, unfolding(crate::specs::Pairs::is_bytes))]
 fn is_bytes(word: &[u8]) -> bool
     ensures { result ≡ is_bytes word.now }
 {
-    if word.len() < 2 {
-        wire::byte_at(word, 0) == b'-'
-    } else if word.len() % 2 == 0 {
-        all_hex(word)
-    } else {
-        false
+    match word {
+        [] => false,
+        [only] => *only == b'-',
+        _ => word.len() % 2 == 0 && all_hex(word),
     }
 }
 
@@ -139,10 +116,8 @@ fn put_bytes(word: &[u8], room: &mut [u8], n: usize)
     requires { (is_bytes word.now ≡ true) × (n ≡ length (bytes_of word.now)) × (n ≤ length room.old) }
     ensures { room.new ≡ laid room.old 0 (bytes_of word.now) }
 {
-    let mut j = 0;
-    while j < n {
-        room[j] = 16 * nibble(word[2 * j]) + nibble(word[2 * j + 1]);
-        j += 1;
+    for j in 0..n {
+        room[j] = 16 * nibble(word[2 * j]).unwrap() + nibble(word[2 * j + 1]).unwrap();
     }
 }
 
@@ -162,14 +137,11 @@ pub fn hex(word: &[u8], room: &mut [u8]) -> Option<usize>
 }
 
 // The place after n bytes from k on.
+#[tactic(auto, unfolding(crate::specs::Places::after))]
 fn next(len: usize, k: usize, n: usize) -> usize
     ensures { result ≡ after len k n }
 {
-    if k < len {
-        k + wire::lesser(n, len - k)
-    } else {
-        k
-    }
+    k + n.min(len.saturating_sub(k))
 }
 
 // Lays a text over out from k on, as much of it as has room, and answers the next place.
@@ -193,6 +165,7 @@ pub fn decimal(out: &mut [u8], k: usize, n: u64) -> usize
 }
 
 // The hex digit of a value below 16.
+#[tactic(auto, using(crate::proofs::Laws::digits))]
 fn glyph(d: u8) -> u8
     requires { d < 16 }
     ensures { result ≡ glyphOf d }
@@ -215,10 +188,8 @@ fn pairs(out: &mut [u8], k: usize, bytes: &[u8]) -> usize
     ensures out_after { out.new ≡ laid out.old k (pairs_of bytes.now) }
 {
     let mut p = k;
-    let mut i = 0;
-    while i < bytes.len() {
-        p = pair(out, p, bytes[i]);
-        i += 1;
+    for b in bytes {
+        p = pair(out, p, *b);
     }
     p
 }
@@ -228,7 +199,7 @@ pub fn hex_out(out: &mut [u8], k: usize, bytes: &[u8]) -> usize
     ensures value { result ≡ after (length out.old) k (length (hex_text bytes.now)) }
     ensures out_after { out.new ≡ laid out.old k (hex_text bytes.now) }
 {
-    if bytes.len() == 0 {
+    if bytes.is_empty() {
         say(out, k, b"-")
     } else {
         pairs(out, k, bytes)

@@ -1,12 +1,11 @@
 -- `lines::number` makes the definition's test.
-use Rattle.refusal.proofs.Tests.{tests}
 use Rattle.lines.specs.Numbers.{number_said}
 use Rattle.lines.proofs.number.Goals as goal
 
-pub returns-then-word-eq0 : goal.returns-then-word-eq0
+pub returns-then-is_empty : goal.returns-then-is_empty
 unfolding number_said
-returns-then-word-eq0 c = search tests
+returns-then-is_empty c = rw (← c.is_empty.ensures, c.if-is_empty.true)
 
-pub returns-else-word-eq0 : goal.returns-else-word-eq0
+pub returns-else-is_empty : goal.returns-else-is_empty
 unfolding number_said
-returns-else-word-eq0 c = search (tests, c.run.ensures)
+returns-else-is_empty c = rw (← c.is_empty.ensures, c.if-is_empty.false) c.run.ensures
