@@ -1,16 +1,29 @@
 -- An answer is known from what it says: so a promise on what is said allows one answer. The laws of `refusal` say it of any values that can be got back.
 use Prim.Native.Nat.{ℕ}
-use mathlib.Core.Path.{◌≡◌, refl, sym, ◌∙◌}
+use mathlib.Core.Path.{◌≡◌, refl, sym, ap, ◌∙◌}
 use mathlib.Core.List.{List}
+use mathlib.Core.Bool.{true, false, false≢true}
 use lib.ListN.{get_or}
-use Rattle.std.specs.Prelude.{Result, ⊤}
+use Rattle.std.specs.Prelude.{Result, Ok, Err, MatchResult, ⊤}
 use Rattle.refusal.specs.Said.{Said}
 use Rattle.refusal.specs.declared.Refusal.{Refusal}
+use Rattle.refusal.specs.declared.Refusal.TheVariants as r
 use Rattle.refusal.proofs.Unique.{said_unique, number_unique, done_unique}
+use Rattle.eeprom.specs.Image.{within}
 use Rattle.eeprom.specs.Answers.{range_values, behind_values, said_range, said_byte, said_reading, said_exact, said_writing}
 use Rattle.eeprom.specs.declared.Range.{Range}
 use Rattle.eeprom.specs.declared.ExactRead.{ExactRead}
 use Rattle.eeprom.specs.declared.WordsWritten.{WordsWritten}
+
+-- what the check of an image promises of its answer: done, or 14
+abbrev Checks : List ℕ → Result ⊤ Refusal → Type 0
+Checks image a = MatchResult a (λ _. within image ≡ true) (λ x. (x ≡ r.BadArgument) × (within image ≡ false))
+
+pub checked_unique : (image : List ℕ) (a b : Result ⊤ Refusal) → Checks image a → Checks image b → a ≡ b
+checked_unique image (Ok x) (Ok y) p q = refl
+checked_unique image (Ok x) (Err y) p q = absurd (false≢true (sym q.1 ∙ p))
+checked_unique image (Err x) (Ok y) p q = absurd (false≢true (sym p.1 ∙ q))
+checked_unique image (Err x) (Err y) p q = ap Err (p.0 ∙ sym q.0)
 
 -- the range whose position is the list's value at i, and whose end is that at j
 abbrev at : List ℕ → ℕ → ℕ → Range

@@ -59,6 +59,17 @@ pub fn image_within(image: &[u8]) -> bool
     image.len() <= IMAGE_MOST
 }
 
+// The same as a refusal: 14 where the image has more.
+pub fn checked(image: &[u8]) -> Result<(), Refusal>
+    ensures { MatchResult result (λ _. within image.now ≡ true) (λ x. (x ≡ Refusal.BadArgument) × (within image.now ≡ false)) }
+{
+    if image_within(image) {
+        Ok(())
+    } else {
+        Err(Refusal::BadArgument)
+    }
+}
+
 impl Chunk {
     // How many bytes a chunk has.
     fn width(self) -> usize

@@ -15,7 +15,7 @@ use Rattle.wire.specs.Bytes.{span, filled}
 use Rattle.eeprom.specs.Image.{width_of, chunk_of}
 use Rattle.eeprom.specs.declared.Chunk.{Chunk}
 use Rattle.eeprom.specs.declared.Chunk.TheVariants as chunk
-use Rattle.eeprom.proofs.Unique.{range_unique, byte_unique, reading_unique, exact_read_unique, words-written_unique}
+use Rattle.eeprom.proofs.Unique.{checked_unique, range_unique, byte_unique, reading_unique, exact_read_unique, words-written_unique}
 use Rattle.category.proofs.Unique.{found_unique as category-unique, inside_unique}
 use Rattle.sii.proofs.Unique.{alias_unique, set_unique, identity_unique, mailbox_unique, size_unique, general_unique, found_unique, ports_unique, word_unique}
 use Rattle.setup.proofs.Unique.{pdi_unique, bootstrap_unique, version_unique, checksum_unique}
@@ -67,6 +67,7 @@ module _ {M : Type 1} {𝓤 : Ura M} (𝓛 : Logic 𝓤) (mem : Memory → SProp
     «crc::crc» = λ κs a g r s ws vs. one 𝓤 (λ p q. (same p q, refl));
     -- ---- eeprom
     «eeprom::image_within» = λ κs a g r s ws vs. one 𝓤 (λ p q. (same p q, refl));
+    «eeprom::checked» = λ κs a g r s ws vs. one 𝓤 (λ p q. (checked_unique _ r s p q, refl));
     «eeprom::read_chunk» = λ κs a g r s ws vs. one 𝓤 (λ p q. (same p q, refl));
     narrow = λ κs a m g h r s ws vs. one 𝓤 (λ p q. (same (ap (take 4) p ∙ narrow-is _ _ a.1.1.0) (ap (take 4) q ∙ narrow-is _ _ m), refl));
     «eeprom::byte_of» = λ κs a m g h r s ws vs. one 𝓤 (λ p q. (same p q, refl));

@@ -94,6 +94,7 @@ module _ {M : Type 1} {𝓤 : Ura M} (𝓛 : Logic 𝓤) (mem : Memory → SProp
     pub «crc::crc» : Whole of-crc.crc.ended of-crc.crc.clauses
     -- ---- eeprom
     pub «eeprom::image_within» : Whole of-eeprom.image_within.ended of-eeprom.image_within.clauses
+    pub «eeprom::checked» : Whole of-eeprom.checked.ended of-eeprom.checked.clauses
     pub «eeprom::read_chunk» : Whole of-eeprom.read_chunk.ended of-eeprom.read_chunk.clauses
     -- a chunk is as wide as it is asked: of two widths the bytes that both have are the same
     pub narrow : WideAs of-eeprom.read_chunk.ended of-eeprom.read_chunk.clauses (λ κs. List ℕ) (λ κs r. take 4 r) third IsAlike
