@@ -2,7 +2,7 @@
 // headers are packed by `pdu`. The state of an area goes in and comes back by value, and so does the index counter.
 #![tactic(auto)]
 
-ghost use Rattle.std.specs.Prelude.{Err, ◌≡◌, ◌+◌, ◌<◌, ◌≤◌, max, length};
+ghost use Rattle.std.specs.Prelude.{Err, ◌≡◌, ◌+◌, ◌<◌, ◌≤◌, length};
 ghost use Rattle.pdu.specs.Pdu.{area_most, pdu_overhead, more_at};
 ghost use Rattle.created_frame.specs.Frame.{marked, sound, acceptable, with_pdu, Roomy, grown, pushed, pushed_builder, pushed_next, after_push, opened, after_open, taken, rest_pushed, rest_builder, rest_next, after_rest, can_push};
 ghost use Rattle.created_frame.specs.Answers.{handle_values, state_values, said_opened, said_pushed, said_rest, said_can};
@@ -34,7 +34,8 @@ pub struct PduResponseHandle {
     pub command: u8,
 }
 
-// A push's answer, the state after it, and the index of the next PDU.
+// A push's answer, the state after it, and the index of the next PDU. State and index stand beside the answer and not in its Ok,
+// since a refusal gives them too: one with 8 uses up an index (the clause `state` of `push_pdu`).
 #[derive(Clone, Copy)]
 pub struct Push {
     pub answer: Result<PduResponseHandle, Refusal>,
@@ -42,7 +43,7 @@ pub struct Push {
     pub next: u8,
 }
 
-// Its answer, the state after it, and the index of the next PDU.
+// The same of a push of as much as fits. It answers how many bytes went in, and the PDU; or None, where not one had room.
 #[derive(Clone, Copy)]
 pub struct RestPush {
     pub answer: Result<Option<(usize, PduResponseHandle)>, Refusal>,
@@ -50,16 +51,16 @@ pub struct RestPush {
     pub next: u8,
 }
 
-// Zeroes the area, and gives the state of an empty one.
+// Zeroes the area, and gives the state of an empty one. One of more than 2,047 bytes is refused with 14, and stays as it was.
 #[tactic(auto, unfolding(crate::specs::Frame::opened, crate::specs::Frame::after_open))]
 pub fn open(area: &mut [u8]) -> Result<Builder, Refusal>
     ensures answer { said_opened result ≡ opened (length area.old) }
     ensures whole { area.new ≡ after_open area.old }
 {
-    if AREA_MOST < area.len() {
+    if area.len() > AREA_MOST {
         return Err(Refusal::BadArgument);
     }
-    wire::fill(area, 0);
+    area.fill(0);
     Ok(Builder {
         used: 0,
         count: 0,
@@ -68,6 +69,7 @@ pub fn open(area: &mut [u8]) -> Result<Builder, Refusal>
 }
 
 // Pushes a PDU of these bytes; its payload is as long as the larger of their count and `over`.
+// What is out of bounds is refused with 14, and a PDU that has no space with 8.
 #[tactic(auto, using(crate::proofs::Laws::accepted, crate::proofs::Laws::has_room, crate::proofs::Laws::in_largest), unfolding(crate::specs::Frame::pushed, crate::specs::Frame::pushed_builder, crate::specs::Frame::pushed_next, crate::specs::Frame::after_push, crate::specs::Frame::room))]
 pub fn push_pdu(
     area: &mut [u8],
@@ -83,11 +85,11 @@ pub fn push_pdu(
         × (result.next ≡ pushed_next (length area.old) b index command (length bytes.now) over) }
     ensures whole { area.new ≡ after_push area.old b index command address bytes.now over }
 {
-    let next = std::num::wrapping_add_u8(index, 1);
+    let next = index.wrapping_add(1);
     if !is_acceptable(area.len(), b, command, bytes.len(), over) {
         return refused(Refusal::BadArgument, b, index);
     }
-    let len = larger(bytes.len(), over);
+    let len = bytes.len().max(over);
     if area.len() < b.used + (len + PDU_OVERHEAD_BYTES) {
         return refused(Refusal::TooLong, b, next);
     }
@@ -99,7 +101,7 @@ pub fn push_pdu(
     }
 }
 
-// Pushes a PDU of the first of these bytes: as many as have room.
+// Pushes a PDU of the first of these bytes: as many as have room. What is out of bounds is refused with 14.
 #[tactic(auto, using(crate::proofs::Laws::accepted, crate::proofs::Laws::rest_room, crate::proofs::Laws::in_largest), unfolding(crate::specs::Frame::rest_pushed, crate::specs::Frame::rest_builder, crate::specs::Frame::rest_next, crate::specs::Frame::after_rest))]
 pub fn push_pdu_slice_rest(
     area: &mut [u8],
@@ -114,7 +116,7 @@ pub fn push_pdu_slice_rest(
         × (result.next ≡ rest_next (length area.old) b index command (length bytes.now)) }
     ensures whole { area.new ≡ after_rest area.old b index command address bytes.now }
 {
-    let next = std::num::wrapping_add_u8(index, 1);
+    let next = index.wrapping_add(1);
     if !is_acceptable(area.len(), b, command, bytes.len(), 0) {
         return without(Err(Refusal::BadArgument), b, index);
     }
@@ -130,15 +132,12 @@ pub fn push_pdu_slice_rest(
     }
 }
 
-// Whether a PDU of len payload bytes has room.
+// Whether a PDU of len payload bytes has room. A state or a length that is out of bounds is refused with 14.
 #[tactic(auto, unfolding(crate::specs::Frame::can_push, crate::specs::Frame::room, crate::specs::Frame::sound))]
 pub fn can_push_pdu_payload(size: usize, b: Builder, len: usize) -> Result<bool, Refusal>
     ensures { said_can result ≡ can_push size b len }
 {
-    if !is_sound(size, b) {
-        return Err(Refusal::BadArgument);
-    }
-    if DATA_MOST < len {
+    if !is_sound(size, b) || len > DATA_MOST {
         return Err(Refusal::BadArgument);
     }
     Ok(b.used + (len + PDU_OVERHEAD_BYTES) <= size)
@@ -149,28 +148,13 @@ pub fn can_push_pdu_payload(size: usize, b: Builder, len: usize) -> Result<bool,
 pub fn is_sound(size: usize, b: Builder) -> bool
     ensures { result ≡ sound size b }
 {
-    let used = b.used;
-    let count = b.count;
-    let last = b.last;
-    if AREA_MOST < size {
+    if size > AREA_MOST || b.used > size {
         return false;
     }
-    if size < used {
-        return false;
+    if b.count == 0 {
+        return b.used == 0;
     }
-    if count == 0 {
-        return used == 0;
-    }
-    if used / PDU_OVERHEAD_BYTES < count {
-        return false;
-    }
-    if used < HEADER_BYTES {
-        return false;
-    }
-    if used - HEADER_BYTES < last {
-        return false;
-    }
-    true
+    b.count <= b.used / PDU_OVERHEAD_BYTES && b.last <= b.used - HEADER_BYTES
 }
 
 // A state as a row of numbers: used, count, last.
@@ -197,26 +181,7 @@ pub fn handle_row(h: PduResponseHandle) -> [u64; 4]
 fn is_acceptable(size: usize, b: Builder, command: u8, given: usize, over: usize) -> bool
     ensures { result ≡ acceptable size b command given over }
 {
-    if !is_sound(size, b) {
-        return false;
-    }
-    if COMMAND_MOST < command {
-        return false;
-    }
-    if DATA_MOST < given {
-        return false;
-    }
-    if DATA_MOST < over {
-        return false;
-    }
-    true
-}
-
-// The larger of two.
-fn larger(a: usize, b: usize) -> usize
-    ensures { result ≡ max a b }
-{
-    if a < b { b } else { a }
+    is_sound(size, b) && command <= COMMAND_MOST && given <= DATA_MOST && over <= DATA_MOST
 }
 
 // How many of `given` bytes have room in an area of size bytes with `used` used.
@@ -224,11 +189,7 @@ fn rest_len(size: usize, used: usize, given: usize) -> usize
     requires { used ≤ size }
     ensures { result ≡ taken size used given }
 {
-    let free = size - used;
-    if free < PDU_OVERHEAD_BYTES {
-        return 0;
-    }
-    wire::lesser(given, free - PDU_OVERHEAD_BYTES)
+    given.min((size - used).saturating_sub(PDU_OVERHEAD_BYTES))
 }
 
 // A PDU of len payload bytes behind the used ones, of which `bytes` are written; its last two bytes, the working counter, are not.
