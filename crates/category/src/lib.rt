@@ -2,7 +2,10 @@
 // RULES, category, decides; specs/Category.antt has its rules in its order.
 #![tactic(auto)]
 
-ghost use Rattle.std.specs.Prelude.{◌≡◌, ◌+◌, ◌≤◌, ◌<◌};
+ghost use Rattle.std.specs.Prelude.{MatchResult, true, [], ◌≡◌, ◌+◌, ◌≤◌, ◌<◌};
+ghost use Rattle.refusal.specs.Said.{refuses};
+ghost use Rattle.refusal.specs.declared.Refusal.TheVariants as Refusal;
+ghost use Rattle.eeprom.specs.Image.{within};
 ghost use Rattle.eeprom.specs.Answers.{said_range};
 ghost use Rattle.category.specs.Layout.{header_words, word_most};
 ghost use Rattle.category.specs.Category.{numbers, empty_most, among, counted, decided, stepped, searched, category_said};
@@ -62,42 +65,41 @@ enum Step {
     Next(u32, u32),
 }
 
-// Finds the first category of this number, within the first 31 empty headers. A number that may not be sought is 14.
+// Finds the first category of this number, within the first 31 empty headers: its body, from its first byte to its end.
+// Refuses 14 where the image is too long or the number may not be sought, and 1 where a length leads past the last word or the range would end above its limit.
+#[tactic(auto, unfolding(crate::specs::Category::category_said))]
 pub fn category(image: &[u8], chunk: Chunk, number: u16) -> Result<Option<Range>, Refusal>
     ensures { said_found result ≡ category_said image.now number }
 {
-    if image_within(image) {
-        if sought(number) {
-            let ending = search(image, chunk, number);
-            ending.found
-        } else {
-            Err(Refusal::BadArgument)
-        }
-    } else {
-        Err(Refusal::BadArgument)
-    }
+    checked(image, number)?;
+    search(image, chunk, number).found
 }
 
 // Whether the headers that the search for this number looks at, the mark, and the category that it finds lie in the image.
 // Past the image a byte reads as 0xFF, and a mark read there is none. Where `category` refuses, its refusal.
+#[tactic(auto, unfolding(crate::specs::Inside::inside_said, crate::specs::Inside::end_inside))]
 pub fn category_inside(image: &[u8], chunk: Chunk, number: u16) -> Result<bool, Refusal>
     ensures { said_inside result ≡ inside_said image.now number }
 {
-    if image_within(image) {
-        if sought(number) {
-            let ending = search(image, chunk, number);
-            let word = ending.word;
-            let found = ending.found;
-            end_inside(image, chunk, word, found)
-        } else {
-            Err(Refusal::BadArgument)
-        }
+    checked(image, number)?;
+    let ending = search(image, chunk, number);
+    end_inside(image, chunk, ending.word, ending.found)
+}
+
+// The image is not too long, and the number may be sought: else 14.
+#[tactic(auto, unfolding(crate::specs::Category::category_said))]
+fn checked(image: &[u8], number: u16) -> Result<(), Refusal>
+    ensures { MatchResult result (λ _. (within image.now ≡ true) × (among number numbers ≡ true)) (λ x. (x ≡ Refusal.BadArgument) × (category_said image.now number ≡ refuses 14 [])) }
+{
+    if image_within(image) && is_sought(number) {
+        Ok(())
     } else {
         Err(Refusal::BadArgument)
     }
 }
 
 // .. where it ended at the header at word with this.
+#[tactic(auto, unfolding(crate::specs::Inside::end_inside))]
 fn end_inside(
     image: &[u8],
     chunk: Chunk,
@@ -107,14 +109,15 @@ fn end_inside(
     requires { word ≤ word_most }
     ensures { said_inside result ≡ end_inside image.now word (said_found found) }
 {
-    match found {
-        Ok(Some(g)) => Ok((g.end as usize) <= image.len()),
-        Ok(None) => Ok((header_end(image, chunk, word) as usize) <= image.len()),
-        Err(x) => Err(x),
-    }
+    let end = match found? {
+        Some(g) => g.end,
+        None => header_end(image, chunk, word),
+    };
+    Ok((end as usize) <= image.len())
 }
 
 // The end of what is looked at of the header at word.
+#[tactic(auto, unfolding(crate::specs::Inside::header_end))]
 fn header_end(image: &[u8], chunk: Chunk, word: u32) -> u32
     requires { word ≤ word_most }
     ensures { result ≡ header_end image.now word }
@@ -128,18 +131,18 @@ fn header_end(image: &[u8], chunk: Chunk, word: u32) -> u32
 
 // A number that may be sought.
 #[tactic(auto, unfolding(crate::specs::Category::among))]
-fn sought(number: u16) -> bool
+fn is_sought(number: u16) -> bool
     ensures { result ≡ among number numbers }
 {
     match number {
-        STRINGS => true,
-        GENERAL => true,
-        FMMU => true,
-        SYNC_MANAGER => true,
-        FMMU_EXTENDED => true,
-        TX_PDO => true,
-        RX_PDO => true,
-        DISTRIBUTED_CLOCK => true,
+        STRINGS
+        | GENERAL
+        | FMMU
+        | SYNC_MANAGER
+        | FMMU_EXTENDED
+        | TX_PDO
+        | RX_PDO
+        | DISTRIBUTED_CLOCK => true,
         _ => false,
     }
 }
@@ -165,6 +168,7 @@ fn search(image: &[u8], chunk: Chunk, number: u16) -> Ending
 }
 
 // The header at word, before which there are so many empty ones.
+#[tactic(auto, unfolding(crate::specs::Category::stepped))]
 fn header(image: &[u8], chunk: Chunk, number: u16, word: u32, empties: u32) -> Step
     requires { (word ≤ word_most) × (empties < empty_most) }
     ensures { said_step result ≡ stepped image.now number word empties }
@@ -181,6 +185,7 @@ fn header(image: &[u8], chunk: Chunk, number: u16, word: u32, empties: u32) -> S
 }
 
 // The count of empty headers with one of this length.
+#[tactic(auto, unfolding(crate::specs::Category::counted))]
 fn count(len_words: u16, empties: u32) -> u32
     requires { empties < empty_most }
     ensures { result ≡ counted len_words empties }
@@ -189,6 +194,7 @@ fn count(len_words: u16, empties: u32) -> u32
 }
 
 // What a header leads to whose body stands at word body, and with which there are e empty ones.
+#[tactic(auto, unfolding(crate::specs::Category::decided))]
 fn decide(category_type: u16, len_words: u16, number: u16, body: u32, e: u32) -> Step
     requires { body ≤ word_most + header_words }
     ensures { said_step result ≡ decided category_type len_words number body e }
@@ -216,8 +222,5 @@ fn decide(category_type: u16, len_words: u16, number: u16, body: u32, e: u32) ->
 fn as_found(range: Result<Range, Refusal>) -> Result<Option<Range>, Refusal>
     ensures { said_found result ≡ said_range range }
 {
-    match range {
-        Ok(g) => Ok(Some(g)),
-        Err(x) => Err(x),
-    }
+    Ok(Some(range?))
 }
