@@ -72,7 +72,7 @@ impl Told for bool {
     ghost values = { bit_values };
 
     fn put(self, row: &mut [u64], at: usize) {
-        put(row, at, &[u64::from(self)]);
+        put(row, at, &[wire::flag(self)]);
     }
 }
 
@@ -177,8 +177,8 @@ pub(crate) fn tell_if_any<T: Told>(row: &mut [u64], answer: Result<Option<T>, Re
     ensures lent { row.new ≡ row_over row.old (said_if_any T.values answer) }
 {
     match answer {
-        Ok(Some(x)) => {
-            x.put(row, 0);
+        Ok(Some(found)) => {
+            found.put(row, 0);
             GIVES
         }
         Ok(None) => ABSENT,
