@@ -12,8 +12,7 @@ use Rattle.refusal.proofs.Unique.{said_unique, number_unique, done_unique}
 use Rattle.eeprom.specs.Image.{within}
 use Rattle.eeprom.specs.Answers.{range_values, behind_values, said_range, said_byte, said_reading, said_exact, said_writing}
 use Rattle.eeprom.specs.declared.Range.{Range}
-use Rattle.eeprom.specs.declared.ExactRead.{ExactRead}
-use Rattle.eeprom.specs.declared.WordsWritten.{WordsWritten}
+use Rattle.eeprom.specs.declared.Standing.{Standing}
 
 -- what the check of an image promises of its answer: done, or 14
 abbrev Checks : List ℕ → Result ⊤ Refusal → Type 0
@@ -42,16 +41,19 @@ byte_unique = behind_unique
 pub reading_unique : (a b : Result (ℕ × Range) Refusal) (s : Said) → said_reading a ≡ s → said_reading b ≡ s → a ≡ b
 reading_unique = behind_unique
 
+-- an answer with the range beside it
+standing_unique : {T : Type 0} (say : Result T Refusal → Said) → ((a b : Result T Refusal) (s : Said) → say a ≡ s → say b ≡ s → a ≡ b)
+    → (a b : Standing T) (s : Said) (g : Range) → (say a.answer ≡ s) × (a.range ≡ g) → (say b.answer ≡ s) × (b.range ≡ g) → a ≡ b
+standing_unique say unique a b s g p q i = record { answer = unique a.answer b.answer s p.0 q.0 i; range = (p.1 ∙ sym q.1) i }
+
 pub exact_unique : (a b : Result ⊤ Refusal) (s : Said) → said_exact a ≡ s → said_exact b ≡ s → a ≡ b
 exact_unique = done_unique
 
--- with the range beside it
-pub exact_read_unique : (a b : ExactRead) (s : Said) (g : Range) → (said_exact a.answer ≡ s) × (a.range ≡ g) → (said_exact b.answer ≡ s) × (b.range ≡ g) → a ≡ b
-exact_read_unique a b s g p q i = record { answer = exact_unique a.answer b.answer s p.0 q.0 i; range = (p.1 ∙ sym q.1) i }
+pub exact_read_unique : (a b : Standing ⊤) (s : Said) (g : Range) → (said_exact a.answer ≡ s) × (a.range ≡ g) → (said_exact b.answer ≡ s) × (b.range ≡ g) → a ≡ b
+exact_read_unique = standing_unique said_exact exact_unique
 
 pub writing_unique : (a b : Result ℕ Refusal) (s : Said) → said_writing a ≡ s → said_writing b ≡ s → a ≡ b
 writing_unique = number_unique
 
--- with the range beside it
-pub words-written_unique : (a b : WordsWritten) (s : Said) (g : Range) → (said_writing a.answer ≡ s) × (a.range ≡ g) → (said_writing b.answer ≡ s) × (b.range ≡ g) → a ≡ b
-words-written_unique a b s g p q i = record { answer = writing_unique a.answer b.answer s p.0 q.0 i; range = (p.1 ∙ sym q.1) i }
+pub words-written_unique : (a b : Standing ℕ) (s : Said) (g : Range) → (said_writing a.answer ≡ s) × (a.range ≡ g) → (said_writing b.answer ≡ s) × (b.range ≡ g) → a ≡ b
+words-written_unique = standing_unique said_writing writing_unique

@@ -31,17 +31,10 @@ pub struct Range {
     pub end: Pos,
 }
 
-// An exact read's answer, and the range as it then stands.
+// An answer, and the range as it then stands: where a call is refused after a part of it, the range stands behind that part.
 #[derive(Clone, Copy)]
-pub struct ExactRead {
-    pub answer: Result<(), Refusal>,
-    pub range: Range,
-}
-
-// A write's answer, and the range as it then stands.
-#[derive(Clone, Copy)]
-pub struct WordsWritten {
-    pub answer: Result<Pos, Refusal>,
+pub struct Standing<T> {
+    pub answer: Result<T, Refusal>,
     pub range: Range,
 }
 
@@ -201,18 +194,18 @@ impl Range {
     }
 
     // Reads into the whole of buf; where the range has less, into as much of it. Refuses 14, then 2, which stands at the end.
-    pub fn read_exact(self, image: &[u8], chunk: Chunk, buf: &mut [u8]) -> ExactRead
+    pub fn read_exact(self, image: &[u8], chunk: Chunk, buf: &mut [u8]) -> Standing<()>
         ensures said { said_exact result.answer ≡ exact_said image.now self.byte_pos self.end (length buf.old) }
         ensures stands { result.range ≡ exact_range image.now self (length buf.old) }
         ensures lent { buf.new ≡ exact_buf image.now self.byte_pos self.end buf.old }
     {
         let k = buf.len();
         match self.read(image, chunk, buf) {
-            Ok((n, after)) => ExactRead {
+            Ok((n, after)) => Standing {
                 answer: all_of(n as usize, k),
                 range: after,
             },
-            Err(x) => ExactRead {
+            Err(x) => Standing {
                 answer: Err(x),
                 range: self,
             },
@@ -222,14 +215,14 @@ impl Range {
     // Writes the bytes as words, while the position is before the end, and answers how many bytes, the padding counted.
     // Refuses 14; then, word by word, 1: the next position would pass the limit, and 7: the word is not wholly in the image. These two keep the words already written and stand after them.
     #[tactic(auto, unfolding(crate::specs::Range::write_said, crate::specs::Range::write_pos, crate::specs::Range::write_image))]
-    pub fn write(self, image: &mut [u8], bytes: &[u8]) -> WordsWritten
+    pub fn write(self, image: &mut [u8], bytes: &[u8]) -> Standing<Pos>
         ensures said { said_writing result.answer ≡ write_said image.old self.byte_pos self.end bytes.now }
         ensures stands { result.range ≡ write_range image.old self bytes.now }
         ensures lent { image.new ≡ write_image image.old self.byte_pos self.end bytes.now }
     {
         match self.checked(image) {
             Ok(()) => write_words(image, self.byte_pos, self.end, bytes),
-            Err(x) => WordsWritten {
+            Err(x) => Standing {
                 answer: Err(x),
                 range: self,
             },
@@ -337,7 +330,7 @@ fn write_word(image: &mut [u8], start_word: usize, low: u8, high: u8)
 }
 
 // Writes words while the position is before the end and bytes remain.
-fn write_words(image: &mut [u8], pos: Pos, end: Pos, bytes: &[u8]) -> WordsWritten
+fn write_words(image: &mut [u8], pos: Pos, end: Pos, bytes: &[u8]) -> Standing<Pos>
     requires { end ≤ image_most }
     ensures said { said_writing result.answer ≡ write_in (length image.old) pos end (length bytes.now) }
     ensures stands { (result.range.byte_pos ≡ pos + 2 * words_written (length image.old) pos end (length bytes.now)) × (result.range.end ≡ end) }
@@ -362,10 +355,10 @@ fn write_words(image: &mut [u8], pos: Pos, end: Pos, bytes: &[u8]) -> WordsWritt
 }
 
 // A write's answer, and where it stands after that.
-fn write_done(answer: Result<Pos, Refusal>, byte_pos: Pos, end: Pos) -> WordsWritten
+fn write_done(answer: Result<Pos, Refusal>, byte_pos: Pos, end: Pos) -> Standing<Pos>
     ensures { result ≡ record { answer = answer; range = record { byte_pos = byte_pos; end = end } } }
 {
-    WordsWritten {
+    Standing {
         answer,
         range: Range { byte_pos, end },
     }

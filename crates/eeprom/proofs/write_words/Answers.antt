@@ -8,19 +8,19 @@ use Rattle.refusal.specs.Said.{Said}
 use Rattle.eeprom.specs.Answers.{said_writing}
 use Rattle.std.specs.Prelude.{Result}
 use Rattle.refusal.specs.declared.Refusal.{Refusal}
-use Rattle.eeprom.specs.declared.WordsWritten.{WordsWritten}
+use Rattle.eeprom.specs.declared.Standing.{Standing}
 use Rattle.eeprom.specs.Range.{words_laid, words_asked}
 use Rattle.eeprom.proofs.Words.{bytes_laid, none-laid, word-laid, written-more, written_all, written_limit, written_stop, asked_end, asked_data}
 use Rattle.eeprom.proofs.write_words.Goals as goal
 use Rattle.eeprom.proofs.write_words.Goals.{then-loop-at-test+else-n-bytes, else-loop-at-test}
 
 -- a way out: what a write done says, where it stands and ends, and what is laid, where n bytes are m words
-leaves : (image₀ image bytes : List ℕ) (pos end at n m : ℕ) (answer : Result ℕ Refusal) (w : WordsWritten) (s : Said) → w ≡ record { answer = answer; range = record { byte_pos = at; end = end } }
+leaves : (image₀ image bytes : List ℕ) (pos end at n m : ℕ) (answer : Result ℕ Refusal) (w : Standing ℕ) (s : Said) → w ≡ record { answer = answer; range = record { byte_pos = at; end = end } }
     → image ≡ bytes_laid image₀ pos n bytes → at ≡ pos + n → (n ≡ 2 * m) × (s ≡ said_writing answer)
     → (said_writing w.answer ≡ s) × (((w.range.byte_pos ≡ pos + 2 * m) × (w.range.end ≡ end)) × (image ≡ words_laid image₀ pos m bytes))
 unfolding words_laid
 leaves image₀ image bytes pos end at n m answer w s d i p e =
-    (ap (λ (x : WordsWritten). said_writing x.answer) d ∙ sym e.1, ((ap (λ (x : WordsWritten). x.range.byte_pos) d ∙ p ∙ ap (λ (k : ℕ). pos + k) e.0, ap (λ (x : WordsWritten). x.range.end) d), i ∙ ap (λ (k : ℕ). bytes_laid image₀ pos k bytes) e.0))
+    (ap (λ (x : Standing ℕ). said_writing x.answer) d ∙ sym e.1, ((ap (λ (x : Standing ℕ). x.range.byte_pos) d ∙ p ∙ ap (λ (k : ℕ). pos + k) e.0, ap (λ (x : Standing ℕ). x.range.end) d), i ∙ ap (λ (k : ℕ). bytes_laid image₀ pos k bytes) e.0))
 
 pub loop-at-init : goal.loop-at-init
 loop-at-init c =
