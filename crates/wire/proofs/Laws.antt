@@ -94,15 +94,15 @@ filled_none s i buf = refl
 -- ---- a list laid over another
 
 -- what stands before the end of what is laid
-pub front : (xs : List ℕ) (at : ℕ) (ys : List ℕ) → at + length ys ≤ length xs → length (take at xs ++ ys) ≡ at + length ys
+pub front : {A : Type 0} → (xs : List A) (at : ℕ) (ys : List A) → at + length ys ≤ length xs → length (take at xs ++ ys) ≡ at + length ys
 front xs at ys h = simp (length-append, length-take) (omega arith)
 
-pub length-overlay : (xs : List ℕ) (at : ℕ) (ys : List ℕ) → at + length ys ≤ length xs → length (overlay xs at ys) ≡ length xs
+pub length-overlay : {A : Type 0} → (xs : List A) (at : ℕ) (ys : List A) → at + length ys ≤ length xs → length (overlay xs at ys) ≡ length xs
 unfolding overlay
 length-overlay xs at ys h = simp (length-append, length-take, length-drop) (omega arith)
 
 -- a second list laid just behind the first is the two laid as one
-pub overlay-next : (xs : List ℕ) (at : ℕ) (ys zs : List ℕ) → at + length ys ≤ length xs
+pub overlay-next : {A : Type 0} → (xs : List A) (at : ℕ) (ys zs : List A) → at + length ys ≤ length xs
     → overlay (overlay xs at ys) (at + length ys) zs ≡ overlay xs at (ys ++ zs)
 unfolding overlay
 overlay-next xs at ys zs h =
@@ -118,34 +118,34 @@ overlay-next xs at ys zs h =
     )
 
 -- what a callee left in `&mut xs[a..a + k]`, put back in the whole, is laid over it
-pub overlay_part : (a k : ℕ) (xs ys zs : List ℕ) → ys ≡ zs → length ys ≡ k → put_mid a k xs ys ≡ overlay xs a zs
+pub overlay_part : {A : Type 0} → (a k : ℕ) (xs ys zs : List A) → ys ≡ zs → length ys ≡ k → put_mid a k xs ys ≡ overlay xs a zs
 unfolding overlay
 overlay_part a k xs ys zs e h = rw (drop-drop, append_assoc, ← e, h)
 
 -- nothing laid changes nothing
-pub overlay-none : (xs : List ℕ) (at : ℕ) → overlay xs at [] ≡ xs
+pub overlay-none : {A : Type 0} → (xs : List A) (at : ℕ) → overlay xs at [] ≡ xs
 unfolding overlay
 overlay-none xs at = rw (append-nil, add-zero) (take-append-drop at xs)
 
 -- what has room is laid whole
-pub laid-whole : (xs : List ℕ) (at : ℕ) (ys : List ℕ) → at + length ys ≤ length xs → laid xs at ys ≡ overlay xs at ys
+pub laid-whole : {A : Type 0} → (xs : List A) (at : ℕ) (ys : List A) → at + length ys ≤ length xs → laid xs at ys ≡ overlay xs at ys
 unfolding laid
 laid-whole xs at ys h =
     let k : length ys ≤ length xs - at = omega arith in
     rw (take_all (length xs - at) ys k)
 
 -- behind the end nothing is laid
-pub laid-past : (xs : List ℕ) (at : ℕ) (ys : List ℕ) → length xs ≤ at → laid xs at ys ≡ xs
+pub laid-past : {A : Type 0} → (xs : List A) (at : ℕ) (ys : List A) → length xs ≤ at → laid xs at ys ≡ xs
 unfolding laid
 laid-past xs at ys h =
     let k : length xs - at ≡ 0 = omega arith in
     rw k (overlay-none xs at)
 
-pub laid_none : (xs : List ℕ) (at : ℕ) → laid xs at [] ≡ xs
+pub laid_none : {A : Type 0} → (xs : List A) (at : ℕ) → laid xs at [] ≡ xs
 unfolding laid
 laid_none xs at = rw (take-nil (length xs - at)) (overlay-none xs at)
 
-pub length-laid : (xs : List ℕ) (at : ℕ) (ys : List ℕ) → length (laid xs at ys) ≡ length xs
+pub length-laid : {A : Type 0} → (xs : List A) (at : ℕ) (ys : List A) → length (laid xs at ys) ≡ length xs
 unfolding laid
 length-laid xs at ys = step (leb at (length xs)) refl
   where
@@ -158,7 +158,7 @@ length-laid xs at ys = step (leb at (length xs)) refl
         ap length (laid-past xs at ys (omega arith))
 
 -- a second list laid just behind the first is the two laid as one
-pub laid-behind : (xs : List ℕ) (at : ℕ) (ys zs : List ℕ) → at + length ys ≤ length xs
+pub laid-behind : {A : Type 0} → (xs : List A) (at : ℕ) (ys zs : List A) → at + length ys ≤ length xs
     → laid (laid xs at ys) (at + length ys) zs ≡ laid xs at (ys ++ zs)
 unfolding laid
 laid-behind xs at ys zs h =
@@ -172,20 +172,20 @@ laid-behind xs at ys zs h =
     )
 
 -- .. and is not laid at all where the first reaches the end
-pub laid-cut : (xs : List ℕ) (at : ℕ) (ys zs : List ℕ) → length xs ≤ at + length ys → laid xs at (ys ++ zs) ≡ laid xs at ys
+pub laid-cut : {A : Type 0} → (xs : List A) (at : ℕ) (ys zs : List A) → length xs ≤ at + length ys → laid xs at (ys ++ zs) ≡ laid xs at ys
 unfolding laid
 laid-cut xs at ys zs h =
     let d : length xs - at ≤ length ys = omega arith in
     rw (take-append-le (length xs - at) ys zs d)
 
 -- the first min of both lengths is the same part as the room's
-take_min : (k : ℕ) (ys : List ℕ) → take (min (length ys) k) ys ≡ take k ys
+take_min : {A : Type 0} → (k : ℕ) (ys : List A) → take (min (length ys) k) ys ≡ take k ys
 take_min zero ys = rw min-zero
 take_min (suc k) [] = simp unary_clauses
 take_min (suc k) (y ∷ ys) = simp unary_clauses (ap (◌∷◌ y) (take_min k ys))
 
 -- laying by that count
-pub laid-least : (xs : List ℕ) (at : ℕ) (ys zs : List ℕ) (n : ℕ) → n ≡ min (length ys) (length xs - at)
+pub laid-least : {A : Type 0} → (xs : List A) (at : ℕ) (ys zs : List A) (n : ℕ) → n ≡ min (length ys) (length xs - at)
     → zs ≡ overlay xs at (take n ys) → zs ≡ laid xs at ys
 unfolding laid
 laid-least xs at ys zs n m e = rw (e, m, take_min)
