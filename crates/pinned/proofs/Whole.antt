@@ -61,7 +61,7 @@ module _ {M : Type 1} {𝓤 : Ura M} (𝓛 : Logic 𝓤) (mem : Memory → SProp
     «wire::long_at» = λ κs a g r s ws vs. one 𝓤 (λ p q. (same p q, refl));
     «wire::flag» = λ κs a g r s ws vs. one 𝓤 (λ p q. (same p q, refl));
     «wire::lesser» = λ κs a g r s ws vs. one 𝓤 (λ p q. (same p q, refl));
-    «wire::lay» = λ κs a g r s ws vs. one 𝓤 (λ p q. (refl, ap (λ l. (l, (tt, (tt, tt)))) (same p q)));
+    «wire::lay» = λ T copying d κs a g r s ws vs. one 𝓤 (λ p q. (refl, ap (λ l. (l, (tt, (tt, tt)))) (same p q)));
     «wire::fill» = λ κs a g r s ws vs. one 𝓤 (λ p q. (refl, ap (λ l. (l, (tt, tt))) (same p q)));
     -- ---- crc
     «crc::crc» = λ κs a g r s ws vs. one 𝓤 (λ p q. (same p q, refl));

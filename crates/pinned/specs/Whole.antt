@@ -7,6 +7,9 @@ use base.Logic.{SProp, ent}
 use prog.Memory.{Memory}
 use prog.Routine.{Routine}
 use types.Logic.{Logic}
+use mir.Syntax.{Dict}
+use denote.RattleType.{RattleType}
+use Rattle.std.specs.declared.clone.Clone.{Ghosts}
 use contract.Lifetimes.{Lfts}
 use contract.Monad.{Fun, conj, fact}
 use denote.Triple.Entry.{Args, Res}
@@ -88,7 +91,7 @@ module _ {M : Type 1} {𝓤 : Ura M} (𝓛 : Logic 𝓤) (mem : Memory → SProp
     pub «wire::long_at» : Whole of-wire.long_at.ended of-wire.long_at.clauses
     pub «wire::flag» : Whole of-wire.flag.ended of-wire.flag.clauses
     pub «wire::lesser» : Whole of-wire.lesser.ended of-wire.lesser.clauses
-    pub «wire::lay» : Whole of-wire.lay.ended of-wire.lay.clauses
+    pub «wire::lay» : (T : RattleType) (copying : Ghosts T.Denot) (d : Dict) → Whole (of-wire.lay.ended T copying d) (of-wire.lay.clauses T copying d)
     pub «wire::fill» : Whole of-wire.fill.ended of-wire.fill.clauses
     -- ---- crc
     pub «crc::crc» : Whole of-crc.crc.ended of-crc.crc.clauses
