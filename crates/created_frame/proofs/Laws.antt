@@ -7,6 +7,7 @@ use Rattle.wire.specs.Bytes.{overlay, laid}
 use Rattle.wire.proofs.Laws.{length-overlay, overlay-next, laid-whole}
 use Rattle.pdu.specs.Pdu.{area_most, pdu_overhead, header_bytes, header_of}
 use Rattle.created_frame.specs.declared.Builder.{Builder}
+use Rattle.created_frame.specs.declared.PduResponseHandle.{PduResponseHandle}
 use Rattle.created_frame.specs.declared.Push.{Push}
 use Rattle.created_frame.specs.Answers.{said_pushed}
 use Rattle.created_frame.specs.Bounds.{Sound, InBounds}
@@ -101,7 +102,7 @@ in_largest size b len given r =
 -- ---- what is promised of a push: the answer, the state and the index, and the area
 
 module _ (xs : List ℕ) (b : Builder) (index command address : ℕ) (bytes : List ℕ) (over : ℕ) where
-  abbrev pub Met : Push → List ℕ → Type 0
+  abbrev pub Met : Push PduResponseHandle → List ℕ → Type 0
   Met r ys =
       (said_pushed r.answer ≡ pushed (length xs) b index command (length bytes) over)
       × (((r.builder ≡ pushed_builder (length xs) b command (length bytes) over) × (r.next ≡ pushed_next (length xs) b index command (length bytes) over))

@@ -48,7 +48,7 @@ module _ (xs : List ℕ) (b : Builder) (index command address len : ℕ) (bytes 
 
 -- ---- the call
 
-module _ (xs : List ℕ) (b : Builder) (index command address : ℕ) (bytes : List ℕ) (over : ℕ) (r : Push) (ys : List ℕ) (met : Met xs b index command address bytes over r ys) where
+module _ (xs : List ℕ) (b : Builder) (index command address : ℕ) (bytes : List ℕ) (over : ℕ) (r : Push PduResponseHandle) (ys : List ℕ) (met : Met xs b index command address bytes over r ys) where
   abbrev size : ℕ
   size = length xs
 

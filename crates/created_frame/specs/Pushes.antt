@@ -27,7 +27,7 @@ pub record Written (xs : List ℕ) (b : Builder) (index command address len : �
   -- all that lies behind the given bytes: payload bytes that are missing, the working counter, the rest of the area
   pub rest_kept : (i : ℕ) → b.used + (header_bytes + length bytes) ≤ i → byte_at ys i ≡ byte_at xs i
 
-pub record Pushes (xs : List ℕ) (b : Builder) (index command address : ℕ) (bytes : List ℕ) (over : ℕ) (r : Push) (ys : List ℕ) : Type 0 where
+pub record Pushes (xs : List ℕ) (b : Builder) (index command address : ℕ) (bytes : List ℕ) (over : ℕ) (r : Push PduResponseHandle) (ys : List ℕ) : Type 0 where
   -- it is refused with 14 exactly if an argument is out of bounds
   pub answers_14 : (r.answer ≡ Err BadArgument) ↔ (InBounds (length xs) b command (length bytes) over → ⊥)
   -- else with 8 exactly if there is no space for the larger of data and override, and 12 bytes

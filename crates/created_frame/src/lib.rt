@@ -2,7 +2,7 @@
 // headers are packed by `pdu`. The state of an area goes in and comes back by value, and so does the index counter.
 #![tactic(auto)]
 
-ghost use Rattle.std.specs.Prelude.{Err, ◌≡◌, ◌+◌, ◌<◌, ◌≤◌, length};
+ghost use Rattle.std.specs.Prelude.{◌≡◌, ◌+◌, ◌<◌, ◌≤◌, length};
 ghost use Rattle.pdu.specs.Pdu.{area_most, pdu_overhead, more_at};
 ghost use Rattle.created_frame.specs.Frame.{marked, sound, acceptable, with_pdu, Roomy, grown, pushed, pushed_builder, pushed_next, after_push, opened, after_open, taken, rest_pushed, rest_builder, rest_next, after_rest, can_push};
 ghost use Rattle.created_frame.specs.Answers.{handle_values, state_values, said_opened, said_pushed, said_rest, said_can};
@@ -37,19 +37,14 @@ pub struct PduResponseHandle {
 // A push's answer, the state after it, and the index of the next PDU. State and index stand beside the answer and not in its Ok,
 // since a refusal gives them too: one with 8 uses up an index (the clause `state` of `push_pdu`).
 #[derive(Clone, Copy)]
-pub struct Push {
-    pub answer: Result<PduResponseHandle, Refusal>,
+pub struct Push<T = PduResponseHandle> {
+    pub answer: Result<T, Refusal>,
     pub builder: Builder,
     pub next: u8,
 }
 
-// The same of a push of as much as fits. It answers how many bytes went in, and the PDU; or None, where not one had room.
-#[derive(Clone, Copy)]
-pub struct RestPush {
-    pub answer: Result<Option<(usize, PduResponseHandle)>, Refusal>,
-    pub builder: Builder,
-    pub next: u8,
-}
+// A push of as much as fits answers how many bytes went in, and the PDU; or None, where not one had room.
+pub type RestPush = Push<Option<(usize, PduResponseHandle)>>;
 
 // Zeroes the area, and gives the state of an empty one. One of more than 2,047 bytes is refused with 14, and stays as it was.
 #[tactic(auto, unfolding(crate::specs::Frame::opened, crate::specs::Frame::after_open))]
@@ -87,11 +82,11 @@ pub fn push_pdu(
 {
     let next = index.wrapping_add(1);
     if !is_acceptable(area.len(), b, command, bytes.len(), over) {
-        return refused(Refusal::BadArgument, b, index);
+        return without(Err(Refusal::BadArgument), b, index);
     }
     let len = bytes.len().max(over);
     if area.len() < b.used + (len + PDU_OVERHEAD_BYTES) {
-        return refused(Refusal::TooLong, b, next);
+        return without(Err(Refusal::TooLong), b, next);
     }
     append(area, b, index, command, address, len, bytes);
     Push {
@@ -125,7 +120,7 @@ pub fn push_pdu_slice_rest(
         return without(Ok(None), b, index);
     }
     append(area, b, index, command, address, n, &bytes[..n]);
-    RestPush {
+    Push {
         answer: Ok(Some((n, handle_of(b, n, index, command)))),
         builder: grow(b, n),
         next,
@@ -251,26 +246,11 @@ fn handle_of(b: Builder, len: usize, index: u8, command: u8) -> PduResponseHandl
     }
 }
 
-// A refused push: the state is as it was.
-fn refused(x: Refusal, b: Builder, next: u8) -> Push
-    ensures { result ≡ record { answer = Err x; builder = b; next = next } }
-{
-    Push {
-        answer: Err(x),
-        builder: b,
-        next,
-    }
-}
-
-// A push of as much as fits that adds no PDU.
-fn without(
-    answer: Result<Option<(usize, PduResponseHandle)>, Refusal>,
-    b: Builder,
-    next: u8,
-) -> RestPush
+// A push that adds no PDU: the state is as it was.
+fn without<T: Copy>(answer: Result<T, Refusal>, b: Builder, next: u8) -> Push<T>
     ensures { result ≡ record { answer = answer; builder = b; next = next } }
 {
-    RestPush {
+    Push {
         answer,
         builder: b,
         next,
