@@ -46,6 +46,7 @@ pub enum Refusal {
 }
 
 // The values of a refusal: the first `count` of the two, and the others are 0.
+// A count beside a row, since nothing here has a heap, and what `values` promises names both.
 #[derive(Clone, Copy)]
 pub struct ValueRow {
     pub count: usize,
