@@ -189,3 +189,6 @@ pub laid-least : {A : Type 0} → (xs : List A) (at : ℕ) (ys zs : List A) (n :
     → zs ≡ overlay xs at (take n ys) → zs ≡ laid xs at ys
 unfolding laid
 laid-least xs at ys zs n m e = rw (e, m, take_min)
+
+-- what lays a part of one list over another
+pub ruleset laying = (laid-least, laid-past, overlay_part)

@@ -61,6 +61,7 @@ pub fn lesser(a: usize, b: usize) -> usize
 }
 
 // Lays src over dst from at on: as much of it as dst has room for.
+#[tactic(auto, using(crate::proofs::Laws::laying))]
 pub fn lay<T: Copy>(dst: &mut [T], at: usize, src: &[T])
     ensures { dst.new ≡ laid dst.old at src.now }
 {
