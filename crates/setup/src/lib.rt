@@ -124,6 +124,7 @@ pub fn checksum(image: &[u8], chunk: Chunk) -> Result<Checksums, Refusal>
 }
 
 // The bytes that the checksum goes over.
+#[tactic(auto, using(wire::proofs::Laws::filled_none))]
 fn bytes_summed(image: &[u8], chunk: Chunk) -> [u8; CHECKSUM]
     ensures { result ≡ summed image.now }
 {

@@ -60,7 +60,7 @@ pub struct SiiGeneral {
     pub physical_memory_addr: u16,
 }
 
-// The kinds of the ports: not used (0), MII, reserved, EBus, fast hot connect.
+// The kinds of the ports: not used (0), MII, reserved, EBus, fast hot connect. They stay numbers: `ports_row` and `general_row` take any, and an enum would ask more of their callers.
 #[derive(Clone, Copy)]
 pub struct PhysicalPorts {
     pub port0: u8,
@@ -228,7 +228,6 @@ fn admitted(general: SiiGeneral) -> bool
 
 #[tactic(auto, unfolding(crate::specs::General::listed))]
 fn port_status(n: u16) -> u8
-    requires { n ≤ 255 }
     ensures { result ≡ listed port_status_last n }
 {
     if n <= PORT_STATUS_LAST { n as u8 } else { 0 }
