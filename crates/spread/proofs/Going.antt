@@ -1,4 +1,5 @@
 -- The loop over the areas: what is done and what the rest of the run gives are the whole run.
+use Rattle.std.specs.Prelude.{Ok, Option}
 use mathlib.Core.Path.{◌≡◌, ◌∙◌, sym, refl, ap}
 use mathlib.Core.Bool.{true}
 use mathlib.Core.List.{List, [], ◌∷◌, ◌++◌, append_assoc, append-nil}
@@ -13,14 +14,14 @@ use Rattle.wire.specs.Bytes.{overlay}
 use Rattle.wire.proofs.Laws.{length-overlay}
 use Rattle.wire.proofs.Overlay.{take-overlay, drop-overlay, middle_overlay, overlay_again}
 use Rattle.created_frame.specs.declared.Builder.{Builder}
-use Rattle.created_frame.specs.declared.RestPush.{RestPush}
+use Rattle.created_frame.specs.declared.PduResponseHandle.{PduResponseHandle}
+use Rattle.created_frame.specs.declared.Push.{Push}
 use Rattle.created_frame.specs.Answers.{said_rest}
 use Rattle.created_frame.specs.Frame.{sound, fresh, taken, rest_pushed, rest_builder, rest_next, after_rest}
 use Rattle.created_frame.proofs.States.{opened-sound}
 use Rattle.created_frame.proofs.Whole.{length-after_rest}
 use Rattle.cuts.proofs.Laws.{row-cap}
 use Rattle.cuts.specs.Measure.{cap}
-use Rattle.spread.specs.declared.SpreadAnswer.TheVariants.{Last}
 use Rattle.spread.specs.declared.Spreading.{Spreading}
 use Rattle.spread.specs.Answers.{first_of}
 use Rattle.spread.specs.Row.{zeroed, Run, stopped, row_from, room_in, padded, Fillable}
@@ -50,10 +51,10 @@ room-some zero size used h = h
 room-some (suc n) size used h = omega arith
 
 -- added up
-pub room-sum : (n size used x later : ℕ) → 1 ≤ n → x ≡ size - used - 12 → later ≡ size - 12 → x + (n - 1) * later ≡ room_in n size used
+pub room_sum : (n size used x later : ℕ) → 1 ≤ n → x ≡ size - used - 12 → later ≡ size - 12 → x + (n - 1) * later ≡ room_in n size used
 unfolding room_from
-room-sum zero size used x later h e f = absurd (omega arith)
-room-sum (suc n) size used x later h e f =
+room_sum zero size used x later h e f = absurd (omega arith)
+room_sum (suc n) size used x later h e f =
     let k : suc n - 1 ≡ n = omega arith in
     rw (k, e, f) (sym (room_from_lem (suc n) size used))
 
@@ -121,7 +122,7 @@ module _ (count size command address : ℕ) (image : List ℕ) (whole : Run) whe
     pub area-fits : at + size ≤ length areas
     area-fits = rw g.at-is (area_in k count size (length areas) k_less g.rows)
 
-    module _ (ys : List ℕ) (r : RestPush) (n : ℕ) (states₁ : List Builder) (al : length area ≡ size) (sd : sound size b ≡ true)
+    module _ (ys : List ℕ) (r : Push (Option (ℕ × PduResponseHandle))) (n : ℕ) (states₁ : List Builder) (al : length area ≡ size) (sd : sound size b ≡ true)
         (e₁ : ys ≡ overlay areas at (after_rest area b i command (address + sent) (drop sent image)))
         (e₂ : said_rest r.answer ≡ rest_pushed size b i command (length (drop sent image)))
         (e₃ : (r.builder ≡ rest_builder size b command (length (drop sent image))) × (r.next ≡ rest_next size b i command (length (drop sent image))))
@@ -221,11 +222,11 @@ module _ (count size command address : ℕ) (image : List ℕ) (whole : Run) whe
   -- what the inner function promises of a result and a row
   abbrev Carried : Spreading → List ℕ → Type 0
   Carried r ys =
-      (r.answer ≡ Last (length whole.states)) × (((r.states ≡ padded whole.states) × (r.next ≡ whole.next)) × (ys ≡ whole.areas))
+      (r.answer ≡ Ok (length whole.states)) × (((r.states ≡ padded whole.states) × (r.next ≡ whole.next)) × (ys ≡ whole.areas))
 
   -- nothing is left: the row and the states are those of the whole run
   pub going_end : (area : List ℕ) (b : Builder) (areas : List ℕ) (states : List Builder) (k at sent i : ℕ) → Going area b areas states k at sent i → length image ≤ sent
-      → Carried (record { answer = Last k; states = states; next = i }) areas
+      → Carried (record { answer = Ok k; states = states; next = i }) areas
   unfolding padded
   going_end area b areas states k at sent i g h =
       let z : length (drop sent image) ≡ 0 = length-drop sent image ∙ omega arith in
@@ -267,7 +268,7 @@ whole_at count size command address image areas states k at sent i =
 
 -- an empty image
 pub nothing : (count size command address : ℕ) (row image : List ℕ) (first : Builder) (index : ℕ) (states : List Builder) → states ≡ padded [] → length image ≡ 0
-    → Carried count size command address image (row_from size command address count (take size row) first index 0 row image) (record { answer = Last 0; states = states; next = index }) row
+    → Carried count size command address image (row_from size command address count (take size row) first index 0 row image) (record { answer = Ok 0; states = states; next = index }) row
 nothing count size command address row image first index states e h =
     rw (row_stop size command address count (take size row) first index 0 row image h) (refl, ((e, refl), refl))
 
@@ -301,7 +302,7 @@ module _ (count size command address : ℕ) (image : List ℕ) where
   whole-at whole areas states k at sent i g = rw (g.row_is, g.states_are, g.next-is) refl
 
   -- the first push
-  pub first_push : (areas ys : List ℕ) (first : Builder) (states states₁ : List Builder) (index : ℕ) (r : RestPush) (n : ℕ)
+  pub first_push : (areas ys : List ℕ) (first : Builder) (states states₁ : List Builder) (index : ℕ) (r : Push (Option (ℕ × PduResponseHandle))) (n : ℕ)
       → Fillable (length areas) size count first command address (length image)
       → (length image ≡ 0 → ⊥) → states ≡ padded []
       → said_rest r.answer ≡ rest_pushed size first index command (length (drop 0 image))
@@ -322,7 +323,7 @@ module _ (count size command address : ℕ) (image : List ℕ) where
       rw (zero-add size, zero-add n) at s
 
   -- an area opened, and a push into it
-  pub again : (whole : Run) (areas zs ys : List ℕ) (states states₁ : List Builder) (k at sent i : ℕ) (none : Builder) (r : RestPush) (n : ℕ)
+  pub again : (whole : Run) (areas zs ys : List ℕ) (states states₁ : List Builder) (k at sent i : ℕ) (none : Builder) (r : Push (Option (ℕ × PduResponseHandle))) (n : ℕ)
       → Going count size command address image whole (zeroed size) fresh areas states k at sent i → sent < length image → none ≡ fresh
       → zs ≡ overlay areas at (zeroed size)
       → said_rest r.answer ≡ rest_pushed size none i command (length (drop sent image))

@@ -1,5 +1,6 @@
 -- `spread::carry` pushes into the first area, then opens and fills one after the other: what is done and what is left are the whole run (Going.antt).
-use mathlib.Core.Path.{refl}
+use mathlib.Core.Path.{refl, sym, ◌∙◌}
+use borrow.Author.Tests.{eqb-true, eqb-false}
 use Prim.Native.Nat.{◌+◌, ◌≤◌, ◌<◌}
 use native.Mathlib.Omega.{arith}
 use lib.ListN.{length, take, set}
@@ -19,7 +20,7 @@ started c =
     let a = c.args in
     let p = c.push_at-s in
     first_push a.count a.size a.command a.address a.image.now a.areas.now p.new.areas a.first c.no_states-states.result _ a.index p.result c.taken_of-sent.result c.requires
-    c.if-image-eq0.false c.no_states-states.ensures p.ensures.answer p.ensures.state p.ensures.whole c.taken_of-sent.ensures refl
+    (eqb-false _ _ (sym c.is_empty.ensures ∙ c.if-is_empty.false)) c.no_states-states.ensures p.ensures.answer p.ensures.state p.ensures.whole c.taken_of-sent.ensures refl
 
 -- another area is there, and lies in the row
 less : (c : In-loop-sent) → c.loop-sent.k < c.args.count
@@ -37,13 +38,13 @@ stepped : (c : After-taken_of-sent-in-loop-sent) →
     c.push_at-p.new.areas (set l.states l.k c.push_at-p.result.builder) (l.k + 1) (l.at + a.size) (l.sent + c.taken_of-sent-in-loop-sent.result) c.push_at-p.result.next
 stepped c =
     let p = c.push_at-p in
-    again _ _ _ _ _ _ _ c.open_at.new.areas p.new.areas _ _ _ _ _ _ c.empty-none.result p.result c.taken_of-sent-in-loop-sent.result
-    c.loop-sent.invariant c.loop-sent-test.true c.empty-none.ensures c.open_at.ensures p.ensures.answer p.ensures.state p.ensures.whole c.taken_of-sent-in-loop-sent.ensures refl
+    again _ _ _ _ _ _ _ c.open_at-opened.new.areas p.new.areas _ _ _ _ _ _ c.open_at-opened.result p.result c.taken_of-sent-in-loop-sent.result
+    c.loop-sent.invariant c.loop-sent-test.true c.open_at-opened.ensures.state c.open_at-opened.ensures.whole p.ensures.answer p.ensures.state p.ensures.whole c.taken_of-sent-in-loop-sent.ensures refl
 
-pub returns-then-image-eq0 : goal.returns-then-image-eq0
-returns-then-image-eq0 c =
+pub returns-then-is_empty : goal.returns-then-is_empty
+returns-then-is_empty c =
     let a = c.args in
-    let h = nothing a.count a.size a.command a.address a.areas.now a.image.now a.first a.index c.no_states-states.result c.no_states-states.ensures c.if-image-eq0.true in
+    let h = nothing a.count a.size a.command a.address a.areas.now a.image.now a.first a.index c.no_states-states.result c.no_states-states.ensures (eqb-true _ _ (sym c.is_empty.ensures ∙ c.if-is_empty.true)) in
     record { answer = h.0; state = h.1.0; whole = h.1.1 }
 
 pub push_at-s-requires : goal.push_at-s-requires
@@ -56,8 +57,8 @@ push_at-s-requires c =
 pub loop-sent-init : goal.loop-sent-init
 loop-sent-init c = going_from _ _ _ _ _ _ _ _ _ _ _ _ (started c)
 
-pub open_at-requires : goal.open_at-requires
-open_at-requires c = (inside (goal.at.open_at-requires c).In-loop-sent, c.loop-sent.invariant.size_most)
+pub open_at-opened-requires : goal.open_at-opened-requires
+open_at-opened-requires c = (inside (goal.at.open_at-opened-requires c).In-loop-sent, c.loop-sent.invariant.size_most)
 
 pub overflow_cast-a : goal.overflow_cast-a
 overflow_cast-a c =
@@ -72,7 +73,7 @@ overflow_add-a c =
 pub push_at-p-requires : goal.push_at-p-requires
 push_at-p-requires c =
     let g = c.loop-sent.invariant in
-    (omega (arith, inside (goal.at.push_at-p-requires c).In-loop-sent, c.open_at.auto.areas), omega (arith, g.sent_most))
+    (omega (arith, inside (goal.at.push_at-p-requires c).In-loop-sent, c.open_at-opened.auto.areas), omega (arith, g.sent_most))
 
 pub bounds-states-k : goal.bounds-states-k
 bounds-states-k c =
