@@ -27,9 +27,6 @@ place-number = at_each (λ (k : ℕ). place_of (number_at k) ≡ k) refl refl re
 pub number_low : (k : ℕ) → k < nowhere → number_at k < port_count
 number_low = at_each (λ (k : ℕ). number_at k < port_count) (leb-true 1 nowhere refl) (leb-true 4 nowhere refl) (leb-true 2 nowhere refl) (leb-true 3 nowhere refl)
 
-pub active-is : {q r : Port} {b : Bool} → q ≡ r → q.active ≡ b → r.active ≡ b
-active-is e h = rw e at h
-
 -- ---- lists of places
 
 module _ {A : Type 0} (g : ℕ → Bool) (f : A → ℕ → A) where
@@ -43,13 +40,8 @@ module _ {A : Type 0} (g : ℕ → Bool) (f : A → ℕ → A) where
       go true next = next (f x k)
       go false next = next x
 
-folded_map : {A : Type 0} (f : A → ℕ → A) (t : ℕ → ℕ) (x : A) (ks : List ℕ) → folded f x (map t ks) ≡ folded (λ (y : A) (k : ℕ). f y (t k)) x ks
-unfolding folded
-folded_map f t x [] = refl
-folded_map f t x (k ∷ ks) = folded_map f t (f x (t k)) ks
-
 module _ (h g : ℕ → Bool) where
-  first-those : (ks : List ℕ) → first_that g (those h ks) ≡ first_that (λ (k : ℕ). h k && g k) ks
+  pub first-those : (ks : List ℕ) → first_that g (those h ks) ≡ first_that (λ (k : ℕ). h k && g k) ks
   unfolding first_that those
   first-those [] = refl
   first-those (k ∷ ks) = go (h k) (first-those ks)
@@ -103,25 +95,18 @@ map-active p t u a b c d = map-those t u (active_at p) places (a, (b, (c, (d, tt
 -- ---- the active ports of a device, over its four places
 
 module _ (p : Ports) where
-  pub entry_steps : folded (taking (active_at p) (sooner (time_at p))) nowhere places ≡ entry p
-  unfolding entry earliest active_ports
+  -- the entry among the first k places
+  abbrev pub entry_among : ℕ → ℕ
+  entry_among zero = nowhere
+  entry_among (suc k) = taking (active_at p) (sooner (time_at p)) (entry_among k) k
+
+  pub entry_steps : entry_among nowhere ≡ entry p
+  unfolding entry earliest active_ports folded
   entry_steps = sym (folded-those (active_at p) (sooner (time_at p)) nowhere places)
 
   pub last_steps : pick (active_at p 3) 3 (pick (active_at p 2) 2 (pick (active_at p 1) 1 (pick (active_at p 0) 0 nowhere))) ≡ last_of (active_ports p)
   unfolding last_of active_ports folded
   last_steps = sym (folded-those (active_at p) (λ (x k : ℕ). k) nowhere places)
-
-  abbrev leads : ℕ → ℕ → Bool
-  leads d k = active_at p k && linked_at p d k
-
-  pub linked_steps : (d : ℕ)
-      → pick (leads d 0) 0 (pick (leads d 1) 1 (pick (leads d 2) 2 (pick (leads d 3) 3 nowhere))) ≡ first_that (linked_at p d) (active_ports p)
-  unfolding active_ports first_that
-  linked_steps d = sym (first-those (active_at p) (linked_at p d) places)
-
-  pub largest_steps : folded (taking (active_at p) (λ (t k : ℕ). max t (time_at p k))) 0 places ≡ largest (map (time_at p) (active_ports p))
-  unfolding largest active_ports
-  largest_steps = sym (folded_map max (time_at p) 0 (those (active_at p) places) ∙ folded-those (active_at p) (λ (t k : ℕ). max t (time_at p k)) 0 places)
 
   pub count_steps : pick (active_at p 0) 1 0 + (pick (active_at p 1) 1 0 + (pick (active_at p 2) 1 0 + pick (active_at p 3) 1 0)) ≡ length (active_ports p)
   unfolding active_ports

@@ -1,4 +1,6 @@
 pub mod Laws
+pub mod Listed
+pub mod Made
 pub mod Words
 pub mod Unique
 pub mod Entry

@@ -6,16 +6,10 @@ ghost use Rattle.ports.specs.Ports.{port_count};
 
 use crate::Ports;
 use crate::active::count;
-use crate::place::{NOWHERE, port_at};
 use wire::lay;
 
 // The bytes of `ports [ `.
 const OPENING_BYTES: usize = 8;
-
-// .. of an active port's word, and of another's.
-const OPEN_BYTES: usize = 5;
-
-const CLOSED_BYTES: usize = 7;
 
 // By how many an active port's word is shorter.
 const SHORTER: usize = 2;
@@ -27,7 +21,16 @@ const TEXT_MOST: usize = 37;
 pub(crate) fn text_len(p: Ports) -> usize
     ensures { result ≡ length (text_of p) }
 {
-    TEXT_MOST - SHORTER * (count(p) as usize)
+    TEXT_MOST - SHORTER * count(p)
+}
+
+// The word of an active port, or of another.
+#[tactic(auto, unfolding(crate::specs::Display::word_of))]
+fn word_of(active: bool) -> &'static [u8]
+    ensures word { result.now ≡ word_of active }
+    ensures most { length result.now ≤ word_most }
+{
+    if active { b"open " } else { b"closed " }
 }
 
 // Lays a port's word over the buffer; the place behind it.
@@ -36,13 +39,9 @@ fn put_word(buf: &mut [u8], at: usize, active: bool) -> usize
     ensures value { (result ≡ at + length (word_of active)) × (result ≤ at + word_most) }
     ensures buf_after { buf.new ≡ laid buf.old at (word_of active) }
 {
-    if active {
-        lay(buf, at, b"open ");
-        at + OPEN_BYTES
-    } else {
-        lay(buf, at, b"closed ");
-        at + CLOSED_BYTES
-    }
+    let word = word_of(active);
+    lay(buf, at, word);
+    at + word.len()
 }
 
 // Lays the words over the buffer behind the opening; the place behind them.
@@ -52,10 +51,8 @@ fn put_words(p: Ports, buf: &mut [u8]) -> usize
     ensures buf_after { buf.new ≡ overlay buf.old (length opening) (words p port_count) }
 {
     let mut at = OPENING_BYTES;
-    let mut k = 0usize;
-    while k < NOWHERE {
-        at = put_word(buf, at, port_at(p, k).active);
-        k += 1;
+    for q in p.0 {
+        at = put_word(buf, at, q.active);
     }
     at
 }

@@ -1,15 +1,16 @@
--- Each way out is one of the four that Linking tells apart.
-use Rattle.ports.proofs.Linking.{assigns_zero, assigns_none, assigns_absent, assigns_port}
+-- The record follows from what is said (Linking).
+use Rattle.std.proofs.Common.{sym}
+use Rattle.refusal.specs.Said.{absent, said_of}
+use Rattle.ports.proofs.Linking.{assigns, assigns_port}
 use Rattle.ports.proofs.Ports.assign_next_downstream_port.Goals as goal
 
-pub returns-then-downstream_subdevice_index-eq0 : goal.returns-then-downstream_subdevice_index-eq0
-returns-then-downstream_subdevice_index-eq0 c = assigns_zero c.args.self c.args.downstream_subdevice_index c.if-downstream_subdevice_index-eq0.true
+pub returns-in-Ok-Some : goal.returns-in-Ok-Some
+returns-in-Ok-Some c =
+    let found = rw c.in-Ok-Some.field-0-is at c.in-Ok-Some.ensures in
+    rw (c.number_at.ensures, c.linked_at.ensures) (assigns_port c.args.self c.args.downstream_subdevice_index c.in-Ok-Some.k found.1 found.0)
 
-pub returns-then-k-lt-NOWHERE : goal.returns-then-k-lt-NOWHERE
-returns-then-k-lt-NOWHERE c = rw (c.number_at.ensures, c.linked_at.ensures, c.next_assignable_port-k.ensures) (assigns_port c.args.self c.args.downstream_subdevice_index c.if-downstream_subdevice_index-eq0.false (rw c.entry_place-e.ensures at c.if-e-lt-NOWHERE.true) (rw c.next_assignable_port-k.ensures at c.if-k-lt-NOWHERE.true))
+pub returns-in-Ok-None : goal.returns-in-Ok-None
+returns-in-Ok-None c = let none = rw c.in-Ok-None.field-0-is at c.in-Ok-None.ensures in assigns c.args.self c.args.downstream_subdevice_index absent (sym none.0)
 
-pub returns-else-k-lt-NOWHERE : goal.returns-else-k-lt-NOWHERE
-returns-else-k-lt-NOWHERE c = assigns_absent c.args.self c.args.downstream_subdevice_index c.if-downstream_subdevice_index-eq0.false (rw c.entry_place-e.ensures at c.if-e-lt-NOWHERE.true) (rw c.next_assignable_port-k.ensures at c.if-k-lt-NOWHERE.false)
-
-pub returns-else-e-lt-NOWHERE : goal.returns-else-e-lt-NOWHERE
-returns-else-e-lt-NOWHERE c = assigns_none c.args.self c.args.downstream_subdevice_index c.if-downstream_subdevice_index-eq0.false (rw c.entry_place-e.ensures at c.if-e-lt-NOWHERE.false)
+pub returns-in-Err : goal.returns-in-Err
+returns-in-Err c = assigns c.args.self c.args.downstream_subdevice_index (said_of c.in-Err.x) c.in-Err.ensures

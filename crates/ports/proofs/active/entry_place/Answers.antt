@@ -1,8 +1,8 @@
--- Four steps are the going through of the active ports (entry-steps).
-use Rattle.ports.specs.Ports.{folded}
+-- After the last place, the entry of the places passed is the entry.
+use Rattle.std.proofs.Common.{◌≡◌, ◌∙◌, arith}
+use Rattle.ports.specs.Ports.{nowhere}
 use Rattle.ports.proofs.Laws.{entry_steps}
 use Rattle.ports.proofs.active.entry_place.Goals as goal
 
-pub returns : goal.returns
-unfolding folded
-returns c = rw (c.earlier-4.ensures, c.earlier-3.ensures, c.earlier-2.ensures, c.earlier.ensures) (entry_steps c.args.p)
+pub returns-clause-place : goal.returns-clause-place
+returns-clause-place c = let e : c.loop-k.k ≡ nowhere = omega arith in rw e at c.loop-k.invariant.0 ∙ entry_steps c.args.p

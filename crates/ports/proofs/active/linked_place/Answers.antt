@@ -1,18 +1,9 @@
--- The first place that is active and has the link (linked-steps).
-use Rattle.ports.proofs.Laws.{linked_steps}
+-- The search goes through the array as the rule goes through the active places.
+use Rattle.std.proofs.Common.{rules}
+use Rattle.std.proofs.iter.runs.Made.{chains}
+use Rattle.ports.specs.Ports.{linked_at}
+use Rattle.ports.proofs.Listed.{first_active_found}
 use Rattle.ports.proofs.active.linked_place.Goals as goal
 
-pub returns-then-leads_to : goal.returns-then-leads_to
-returns-then-leads_to c = rw (← linked_steps c.args.p c.args.device, ← c.leads_to.ensures, c.if-leads_to.true)
-
-pub returns-then-leads_to-2 : goal.returns-then-leads_to-2
-returns-then-leads_to-2 c = rw (← linked_steps c.args.p c.args.device, ← c.leads_to.ensures, c.if-leads_to.false, ← c.leads_to-2.ensures, c.if-leads_to-2.true)
-
-pub returns-then-leads_to-3 : goal.returns-then-leads_to-3
-returns-then-leads_to-3 c = rw (← linked_steps c.args.p c.args.device, ← c.leads_to.ensures, c.if-leads_to.false, ← c.leads_to-2.ensures, c.if-leads_to-2.false, ← c.leads_to-3.ensures, c.if-leads_to-3.true)
-
-pub returns-then-leads_to-4 : goal.returns-then-leads_to-4
-returns-then-leads_to-4 c = rw (← linked_steps c.args.p c.args.device, ← c.leads_to.ensures, c.if-leads_to.false, ← c.leads_to-2.ensures, c.if-leads_to-2.false, ← c.leads_to-3.ensures, c.if-leads_to-3.false, ← c.leads_to-4.ensures, c.if-leads_to-4.true)
-
-pub returns : goal.returns
-returns c = rw (← linked_steps c.args.p c.args.device, ← c.leads_to.ensures, c.if-leads_to.false, ← c.leads_to-2.ensures, c.if-leads_to-2.false, ← c.leads_to-3.ensures, c.if-leads_to-3.false, ← c.leads_to-4.ensures, c.if-leads_to-4.false)
+pub returns-clause-place : goal.returns-clause-place
+returns-clause-place c = first_active_found c.args.p (linked_at c.args.p c.args.device) c.position.result (search (rules, chains))
