@@ -15,6 +15,8 @@ pub counted-largest : (p : Ports) (k : ℕ) → largest (map (time_at (counted_f
 unfolding total_from counted_from times_set active_ports those
 counted-largest p k = ap largest (map-active p (time_at (counted_from p (time_at p k))) (λ (j : ℕ). elapsed (time_at p k) (time_at p j)) refl refl refl refl)
 
+pub ruleset counted = (counted-largest)
+
 -- ---- the old total
 
 elapsed_less : (e t : ℕ) → e ≤ t → t < clock_round → elapsed e t ≡ t - e

@@ -3,8 +3,7 @@ use Rattle.std.proofs.Common.{◌≡◌, ℕ, zero, suc, ◌+◌, ◌-◌, ◌<�
 use mathlib.Core.Bool.{and-true, and-false}
 use Rattle.refusal.specs.Said.{pick}
 use Rattle.ports.specs.declared.Ports.{Ports}
-use Rattle.ports.specs.declared.Port.{Port}
-use Rattle.ports.specs.Ports.{number_at, place_of, places, port_count, nowhere, active_at, time_at, linked_at, those, first_that, folded, taking, last_of, sooner, earliest, active_ports, entry, only}
+use Rattle.ports.specs.Ports.{number_at, place_of, places, port_count, nowhere, active_at, time_at, those, first_that, folded, taking, last_of, sooner, earliest, active_ports, entry, only}
 use Rattle.ports.specs.Delays.{largest, smallest, breadth, total, between, active_between, time_to}
 
 -- ---- a port
@@ -195,6 +194,8 @@ module _ (p : Ports) (e : ℕ) (q : e ≡ entry p) where
   pub total-none : nowhere ≤ e → 0 ≡ total p
   unfolding total breadth entry largest smallest folded
   total-none h = rw (earliest-none (time_at p) (active_ports p) (low_active p) (let z : nowhere ≤ entry p = omega arith in z))
+
+pub ruleset totals = (total-is, total-none, only-total)
 
 -- the total is at most the largest time of an active port
 pub total-most : (p : Ports) (most : ℕ) → ((k : ℕ) → k < nowhere → active_at p k ≡ true → time_at p k ≤ most) → total p ≤ most

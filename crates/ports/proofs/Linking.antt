@@ -1,6 +1,6 @@
 -- What assigning comes to: the port that it takes was active and unlinked and is not the entry port, it has the link afterwards, and nothing else of the record
 -- changes. The assigning rule is opened in the laws of its name, assignable-from and the rest, and nowhere else.
-use Rattle.std.proofs.Common.{◌≡◌, ℕ, ◌<◌, ◌≤◌, Bool, true, false, ◌&&◌, eqb, ltb, ◌≢◌, List, [], ◌∷◌, length, sym, refl, ap, ◌∙◌, subst, true≢false, arith, get_or-set_other, get_or-set_same, ltb-false, ltb-true, le-ltb, lt-ltb, eq-eqb, ne_eqb, eqb-true}
+use Rattle.std.proofs.Common.{◌≡◌, ℕ, ◌<◌, ◌≤◌, Bool, true, false, ◌&&◌, eqb, ltb, ◌≢◌, List, [], ◌∷◌, length, sym, refl, ap, ◌∙◌, subst, true≢false, arith, get_or-set_other, get_or-set_same, ltb-false, ltb-true, lt-ltb, eqb-true}
 use lib.ListN.{get_or-eq_default}
 use borrow.Author.Tests.{eqb-false}
 use Rattle.refusal.specs.Said.{Said, pick, gives, absent, refuses}
@@ -129,7 +129,7 @@ Assigns p d s q = (s ≡ assigned_said p d) × (q ≡ assigned_ports p d)
 
 module _ (p : Ports) (d : ℕ) where
   -- what is said, and the record that follows from it
-  pub assigns : (s : Said) → s ≡ assigned_said p d → Assigns p d s (linked_as p d s)
+  assigns : (s : Said) → s ≡ assigned_said p d → Assigns p d s (linked_as p d s)
   unfolding assigned_ports
   assigns s e = (e, ap (linked_as p d) e)
 

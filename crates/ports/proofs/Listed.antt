@@ -1,6 +1,6 @@
 -- The code goes through the array of ports, the rules go through the places: of four ports these are the same.
 -- What the array's methods find, a place that may be absent, is said by the place of no port where there is none.
-use Rattle.std.proofs.Common.{◌≡◌, ℕ, zero, suc, ◌<◌, max, Bool, true, false, ◌&&◌, cond, List, [], ◌∷◌, map, length, Option, Some, None, unwrap_or, MatchOption, sym, refl, ap, ◌∙◌, arith}
+use Rattle.std.proofs.Common.{◌≡◌, ℕ, ◌<◌, max, Bool, true, false, ◌&&◌, cond, List, [], ◌∷◌, map, length, Option, Some, None, unwrap_or, MatchOption, sym, refl, ap, ◌∙◌, arith}
 use Rattle.std.proofs.lemmas.List.{length-map}
 use Rattle.std.proofs.lemmas.List.FromFn.{fill_by_all}
 use Rattle.std.proofs.lemmas.List.Sums.{length-filter}
@@ -8,7 +8,7 @@ use Rattle.std.specs.List.{filter, find, fold, reduce, count_by}
 use Rattle.refusal.specs.Said.{pick}
 use Rattle.ports.specs.declared.Port.{Port}
 use Rattle.ports.specs.declared.Ports.{Ports}
-use Rattle.ports.specs.Ports.{port_count, nowhere, places, no_port, port_at, active_at, time_at, linked_at, those, first_that, folded, last_of, active_ports}
+use Rattle.ports.specs.Ports.{port_count, nowhere, places, no_port, port_at, active_at, time_at, those, first_that, folded, last_of, active_ports}
 use Rattle.ports.specs.Delays.{largest}
 use Rattle.ports.proofs.Laws.{at_each, last_steps, first-those}
 

@@ -3,7 +3,7 @@ use Rattle.std.proofs.Common.{◌≡◌, ℕ, eqb, get_or, List, Option, Result,
 use Rattle.refusal.specs.declared.Refusal.{Refusal}
 use Rattle.refusal.specs.Said.{Said, said, number_value, pick}
 use Rattle.refusal.proofs.Unique.{said_unique, said_if_any_unique, number_unique}
-use Rattle.ports.specs.Answers.{said_port, said_time, count_of, topology_values, said_topology, said_text}
+use Rattle.ports.specs.Answers.{said_port, said_time, topology_values, said_topology, said_text}
 use Rattle.ports.specs.declared.Ports.{Ports}
 use Rattle.ports.specs.declared.Assigned.{Assigned}
 use Rattle.ports.specs.declared.Topology.{Topology}

@@ -21,6 +21,7 @@ fn earlier(p: Ports, best: Option<usize>, k: usize) -> Option<usize>
 }
 
 // The entry's place; none where no port is active.
+#[tactic(auto, using(crate::proofs::Laws::entry_steps))]
 pub(crate) fn entry_place(p: Ports) -> Option<usize>
     ensures place { unwrap_or result nowhere ≡ entry p }
     ensures inside { IfSome result (λ k. k < nowhere) }
@@ -33,6 +34,7 @@ pub(crate) fn entry_place(p: Ports) -> Option<usize>
 }
 
 // The highest active place.
+#[tactic(auto, using(crate::proofs::Listed::last_found))]
 pub(crate) fn last_place(p: Ports) -> Option<usize>
     ensures place { unwrap_or result nowhere ≡ last_of (active_ports p) }
     ensures inside { IfSome result (λ k. k < nowhere) }
@@ -41,6 +43,7 @@ pub(crate) fn last_place(p: Ports) -> Option<usize>
 }
 
 // The first active place that is linked to this device.
+#[tactic(auto, using(crate::proofs::Listed::first_active_found))]
 pub(crate) fn linked_place(p: Ports, device: u16) -> Option<usize>
     ensures place { unwrap_or result nowhere ≡ first_that (linked_at p device) (active_ports p) }
     ensures inside { IfSome result (λ k. k < nowhere) }
@@ -50,6 +53,7 @@ pub(crate) fn linked_place(p: Ports, device: u16) -> Option<usize>
 }
 
 // How many ports are active.
+#[tactic(auto, using(crate::proofs::Listed::count_listed))]
 pub(crate) fn count(p: Ports) -> usize
     ensures { (result ≡ length (active_ports p)) × (result ≤ port_count) }
 {

@@ -28,6 +28,7 @@ fn largest_time(p: Ports) -> u32
 }
 
 // The largest less the smallest time of the active ports: the smallest is the entry's.
+#[tactic(auto, using(crate::proofs::Laws::totals))]
 pub(crate) fn total_time(p: Ports) -> u32
     ensures { result ≡ total p }
 {
@@ -56,6 +57,7 @@ fn counted_from(p: Ports, e: u32) -> Ports
 }
 
 // The largest time that has elapsed at an active port since the place k.
+#[tactic(auto, using(crate::proofs::From::counted))]
 pub(crate) fn total_since(p: Ports, k: usize) -> u32
     requires { k < nowhere }
     ensures { result ≡ total_from p k }

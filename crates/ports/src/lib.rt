@@ -143,7 +143,7 @@ impl Ports {
     }
 
     // How long a frame takes through the active ports from the entry to this one; none if 0. Refuses 10, then 9.
-    #[tactic(auto, unfolding(crate::specs::Delays::time_to_said))]
+    #[tactic(auto, using(crate::proofs::Laws::totals), unfolding(crate::specs::Delays::time_to_said))]
     pub fn propagation_time_to(self, port: u8) -> Result<Option<u32>, Refusal>
         ensures { said_time result ≡ time_to_said self port }
     {
@@ -162,6 +162,7 @@ impl Ports {
     }
 
     // Links a downstream device to the first active port after the entry, round, that has none; never to the entry. Refuses 14 for device 0, then 9.
+    #[tactic(auto, using(crate::proofs::Linking::assigns_port), unfolding(crate::specs::Assigning::assigned_ports))]
     pub fn assign_next_downstream_port(self, downstream_subdevice_index: u16) -> Assigned
         ensures { (said_port result.answer ≡ assigned_said self downstream_subdevice_index) × (result.ports ≡ assigned_ports self downstream_subdevice_index) }
     {

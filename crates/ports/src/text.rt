@@ -18,6 +18,7 @@ const SHORTER: usize = 2;
 const TEXT_MOST: usize = 37;
 
 // How long the text is: an active port's word is two bytes shorter.
+#[tactic(auto, using(crate::proofs::Words::length_text))]
 pub(crate) fn text_len(p: Ports) -> usize
     ensures { result ≡ length (text_of p) }
 {
@@ -58,6 +59,7 @@ fn put_words(p: Ports, buf: &mut [u8]) -> usize
 }
 
 // Lays the text over the front of a buffer that is long enough.
+#[tactic(auto, using(crate::proofs::Words::text_room, crate::proofs::Words::text_laid))]
 pub(crate) fn put_text(p: Ports, buf: &mut [u8])
     requires { length (text_of p) ≤ length buf.old }
     ensures { buf.new ≡ overlay buf.old 0 (text_of p) }

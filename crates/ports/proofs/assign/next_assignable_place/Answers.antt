@@ -1,10 +1,10 @@
 -- The places behind the entry's, round, are those of the rule, and the first that is open is found.
-use Rattle.std.proofs.Common.{◌≡◌, ◌+◌, ◌%◌, ◌∙◌, Option, ℕ, unwrap_or, ap, refl, rules, tests}
+use Rattle.std.proofs.Common.{◌+◌, ◌%◌, ◌∙◌, ℕ, refl, rules, tests}
 use Rattle.std.proofs.lemmas.Iterator.{YieldsList-from_range, YieldsList-from_map}
 use Rattle.std.proofs.lemmas.Iterator.Adapters.{option_map_id}
 use Rattle.std.proofs.lemmas.Iterator.Consumers.{YieldsList-at}
 use Rattle.std.proofs.lemmas.Iterator.Search.{find_from_yields_List}
-use Rattle.ports.specs.Ports.{nowhere, port_count}
+use Rattle.ports.specs.Ports.{port_count}
 use Rattle.ports.specs.Assigning.{open_at, others_from}
 use Rattle.ports.proofs.Listed.{find_first}
 use Rattle.ports.proofs.Linking.{assignable_from}

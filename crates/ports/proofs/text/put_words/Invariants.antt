@@ -1,7 +1,6 @@
 -- The loop's invariant: the words of the places passed lie behind each other, and the next goes behind them.
 use Rattle.std.proofs.Common.{◌≡◌, ◌+◌, ◌*◌, ◌≤◌, length}
 use Rattle.ports.specs.Display.{opening, word_most, words}
-use Rattle.ports.specs.Ports.{nowhere}
 use Rattle.wire.proofs.Stretch.{Front}
 use Rattle.ports.proofs.text.put_words.Given as goal
 
