@@ -6,7 +6,7 @@ ghost use Rattle.created_frame.specs.Frame.{opened, after_open, pushed, pushed_b
 ghost use Rattle.created_frame.specs.Answers.{handle_values, state_values, said_opened, said_pushed, said_rest};
 ghost use Rattle.export.specs.Told.{code_of, row_over, state_of, state_over, bytes_over, header_told};
 
-use crate::row::{ABSENT, GIVES, Told, put, tell};
+use crate::row::{ABSENT, GIVES, Told, tell};
 use created_frame::{Builder, state_row};
 use pdu::FRAME_HEADER_BYTES;
 use refusal::Refusal;
@@ -75,7 +75,7 @@ pub fn morel_push_pdu_slice_rest(
 }
 
 // The state after a push and the next index, and behind them what it gives.
-#[tactic(auto, unfolding(crate::specs::Told::state_over))]
+#[tactic(auto, using(crate::proofs::Laws::state_laid), unfolding(crate::specs::Told::state_over))]
 fn tell_push<T: Told>(
     out: &mut [u64],
     b: Builder,
@@ -85,8 +85,8 @@ fn tell_push<T: Told>(
     ensures code { result ≡ code_of (said_if_any T.values answer) }
     ensures lent { out.new ≡ state_over out.old b next (said_if_any T.values answer) }
 {
-    let s = state_row(b);
-    put(out, 0, &[s[0], s[1], s[2], u64::from(next)]);
+    let kept = kept_row(b, next);
+    wire::lay(out, 0, &kept);
     match answer {
         Ok(Some(x)) => {
             x.put(out, STATE_NUMBERS + 1);
@@ -95,6 +95,14 @@ fn tell_push<T: Told>(
         Ok(None) => ABSENT,
         Err(x) => refusal::number(x),
     }
+}
+
+// The state and the next index.
+fn kept_row(b: Builder, next: u8) -> [u64; 4]
+    ensures { result ≡ state_values b ++ next ∷ [] }
+{
+    let s = state_row(b);
+    [s[0], s[1], s[2], u64::from(next)]
 }
 
 // What is given as what may be absent.

@@ -8,10 +8,9 @@ ghost use Rattle.pdu.specs.Read.{read_of, pdus_of};
 ghost use Rattle.frame_reader.specs.Answers.{said_frame, read_said};
 ghost use Rattle.export.specs.Told.{code_of, pdus_over};
 
-use crate::row::{code_of, put, put_all};
-use frame_reader::{FrameRead, read_frame};
+use crate::row::{GIVES, put_all};
+use frame_reader::read_frame;
 use pdu::PduFields;
-use refusal::Refusal;
 
 // How many numbers a PDU takes of the row.
 const PDU_NUMBERS: usize = 9;
@@ -22,12 +21,16 @@ pub fn morel_read_frame(frame: &[u8], out: &mut [u64]) -> u8
     ensures code { result ≡ code_of (read_said (read_of frame.now)) }
     ensures lent { out.new ≡ pdus_over out.old (pdus_of (read_of frame.now)) }
 {
-    let answer = read_frame(frame);
-    match answer {
-        Ok(r) => put_pdus(out, &r.pdus[..r.count]),
-        Err(_) => put_pdus(out, &[]),
+    match read_frame(frame) {
+        Ok(r) => {
+            put_pdus(out, &r.pdus[..r.count]);
+            GIVES
+        }
+        Err(x) => {
+            put_pdus(out, &[]);
+            refusal::number(x)
+        }
     }
-    code_of(answer)
 }
 
 // How many PDUs, and the numbers of each.
@@ -35,6 +38,6 @@ fn put_pdus(out: &mut [u64], pdus: &[PduFields])
     requires { length pdus.now ≤ pdus_most }
     ensures { out.new ≡ pdus_over out.old pdus.now }
 {
-    put(out, 0, &[pdus.len() as u64]);
+    wire::lay(out, 0, &[pdus.len() as u64]);
     put_all::<PduFields, PDU_NUMBERS>(out, 1, pdus);
 }

@@ -24,17 +24,6 @@ pub(crate) const GIVES: u8 = 0;
 // The code of an answer that is absent, which leaves its row alone.
 pub(crate) const ABSENT: u8 = 255;
 
-// Lays xs over the row from at on: as many as the row has room for.
-#[tactic(auto, using(wire::proofs::Laws::laid_none))]
-pub(crate) fn put(row: &mut [u64], at: usize, xs: &[u64])
-    ensures { row.new ≡ laid row.old at xs.now }
-{
-    if at < row.len() {
-        let n = xs.len().min(row.len() - at);
-        row[at..at + n].copy_from_slice(&xs[..n]);
-    }
-}
-
 // What an answer gives, as numbers.
 pub(crate) trait Told: Copy {
     ghost values: { Self → List ℕ };
@@ -48,7 +37,7 @@ impl Told for () {
     ghost values = { no_values };
 
     fn put(self, row: &mut [u64], at: usize) {
-        put(row, at, &[]);
+        wire::lay(row, at, &[]);
     }
 }
 
@@ -56,7 +45,7 @@ impl Told for u16 {
     ghost values = { number_value };
 
     fn put(self, row: &mut [u64], at: usize) {
-        put(row, at, &[u64::from(self)]);
+        wire::lay(row, at, &[u64::from(self)]);
     }
 }
 
@@ -64,7 +53,7 @@ impl Told for u32 {
     ghost values = { number_value };
 
     fn put(self, row: &mut [u64], at: usize) {
-        put(row, at, &[u64::from(self)]);
+        wire::lay(row, at, &[u64::from(self)]);
     }
 }
 
@@ -72,7 +61,7 @@ impl Told for bool {
     ghost values = { bit_values };
 
     fn put(self, row: &mut [u64], at: usize) {
-        put(row, at, &[wire::flag(self)]);
+        wire::lay(row, at, &[wire::flag(self)]);
     }
 }
 
@@ -80,7 +69,7 @@ impl Told for Range {
     ghost values = { range_values };
 
     fn put(self, row: &mut [u64], at: usize) {
-        put(row, at, &[u64::from(self.byte_pos), u64::from(self.end)]);
+        wire::lay(row, at, &[u64::from(self.byte_pos), u64::from(self.end)]);
     }
 }
 
@@ -88,7 +77,7 @@ impl Told for SubDeviceIdentity {
     ghost values = { identity_values };
 
     fn put(self, row: &mut [u64], at: usize) {
-        put(row, at, &identity_row(self));
+        wire::lay(row, at, &identity_row(self));
     }
 }
 
@@ -96,7 +85,7 @@ impl Told for DefaultMailbox {
     ghost values = { mailbox_values };
 
     fn put(self, row: &mut [u64], at: usize) {
-        put(row, at, &mailbox_row(self));
+        wire::lay(row, at, &mailbox_row(self));
     }
 }
 
@@ -104,7 +93,7 @@ impl Told for SiiGeneral {
     ghost values = { general_values };
 
     fn put(self, row: &mut [u64], at: usize) {
-        put(row, at, &general_row(self));
+        wire::lay(row, at, &general_row(self));
     }
 }
 
@@ -112,7 +101,7 @@ impl Told for Builder {
     ghost values = { state_values };
 
     fn put(self, row: &mut [u64], at: usize) {
-        put(row, at, &state_row(self));
+        wire::lay(row, at, &state_row(self));
     }
 }
 
@@ -120,7 +109,7 @@ impl Told for PduResponseHandle {
     ghost values = { handle_values };
 
     fn put(self, row: &mut [u64], at: usize) {
-        put(row, at, &handle_row(self));
+        wire::lay(row, at, &handle_row(self));
     }
 }
 
@@ -128,7 +117,7 @@ impl Told for PduFields {
     ghost values = { pdu_values };
 
     fn put(self, row: &mut [u64], at: usize) {
-        put(row, at, &pdu_row(self));
+        wire::lay(row, at, &pdu_row(self));
     }
 }
 
@@ -138,7 +127,7 @@ impl Told for (usize, PduResponseHandle) {
     fn put(self, row: &mut [u64], at: usize) {
         let (taken, pdu) = self;
         let h = handle_row(pdu);
-        put(row, at, &[taken as u64, h[0], h[1], h[2], h[3]]);
+        wire::lay(row, at, &[taken as u64, h[0], h[1], h[2], h[3]]);
     }
 }
 
@@ -203,6 +192,6 @@ fn refused(row: &mut [u64], x: Refusal) -> u8
     ensures lent { row.new ≡ row_over row.old (said_of x) }
 {
     let v = refusal::values(x);
-    put(row, 0, &v.items[..v.count]);
+    wire::lay(row, 0, &v.items[..v.count]);
     refusal::number(x)
 }

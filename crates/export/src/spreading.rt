@@ -7,7 +7,7 @@ ghost use Rattle.spread.specs.Answers.{said_last, first_of};
 ghost use Rattle.spread.specs.Row.{areas_most, spread_of};
 ghost use Rattle.export.specs.Told.{code_of, state_of, run_over};
 
-use crate::row::{code_of, put, put_all};
+use crate::row::{code_of, put_all};
 use created_frame::Builder;
 use refusal::Refusal;
 use spread::spread;
@@ -51,6 +51,6 @@ fn put_run(out: &mut [u64], next: u8, n: usize, states: &[Builder])
     requires { (n ≤ areas_most) × (n ≤ length states.now) }
     ensures { out.new ≡ laid out.old 0 (next ∷ n ∷ flat_map state_values (take n states.now)) }
 {
-    put(out, 0, &[u64::from(next), n as u64]);
+    wire::lay(out, 0, &[u64::from(next), n as u64]);
     put_all::<Builder, STATE_NUMBERS>(out, 2, &states[..n]);
 }
