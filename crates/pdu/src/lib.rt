@@ -99,6 +99,7 @@ pub fn pdu_row(p: PduFields) -> [u64; 9]
 }
 
 // The PDU at `at` with these flags ends rightly: at `end` if it is the last, before it if more follow.
+#[tactic(auto, unfolding(crate::specs::Read::rightly))]
 pub fn ends_rightly(at: usize, end: usize, flags: u16) -> bool
     ensures { result ≡ rightly at end flags }
 {

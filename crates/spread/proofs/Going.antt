@@ -71,11 +71,6 @@ row_small count size all e h k =
     let l : count * size ≤ 32 * size = mul-le-mul_right size h in
     omega arith
 
-pub later_small : (count size later : ℕ) → count ≤ 32 → later ≡ size - 12 → size ≤ 2047 → (count - 1) * later ≤ 65504
-later_small count size later h e k =
-    let l : (count - 1) * later ≤ 32 * later = mul-le-mul_right later (let m : count - 1 ≤ 32 = omega arith in m) in
-    omega arith
-
 module _ (size command address : ℕ) where
   -- ---- one area more, or none
 
