@@ -20,4 +20,4 @@ module _ (image : List ℕ) (alias : ℕ) where
 
   pub set_long : within image ≡ false → (refuses 14 [] ≡ set_said image) × (image ≡ set_image image alias)
   unfolding set_said set_image lent
-  set_long n = (simp (n), simp (n))
+  set_long n = (simp n, simp n)

@@ -190,7 +190,7 @@ pub fn general(image: &[u8], chunk: Chunk) -> Result<SiiGeneral, Refusal>
     find_general(image, chunk)?.ok_or(Refusal::NoCategory)
 }
 
-// General; not found is absent. A category too short for it is refused with 2, and one with an undefined bit with 5.
+// General; not found is absent. Refuses what `category` refuses, a category too short for it with 2, and an undefined bit with 5.
 #[tactic(auto, using(category::proofs::First::found_within), unfolding(crate::specs::General::general_found, refusal::specs::Said::on2))]
 pub fn find_general(image: &[u8], chunk: Chunk) -> Result<Option<SiiGeneral>, Refusal>
     ensures { said_found result ≡ general_found image.now }
@@ -255,7 +255,7 @@ fn general_at(image: &[u8], chunk: Chunk, at: u32) -> SiiGeneral
     }
 }
 
-// ---- General's ports and physical memory address by ETG2010's places
+// ---- General's ports and physical memory address by ETG2010's places: a category that ends before them is refused with 2
 
 // The kinds of the ports; General not found is refusal 3.
 #[tactic(auto, unfolding(crate::specs::General::ports_said, crate::specs::General::kinds_of))]
