@@ -60,7 +60,8 @@ pub struct SiiGeneral {
     pub physical_memory_addr: u16,
 }
 
-// The kinds of the ports: not used (0), MII, reserved, EBus, fast hot connect. They stay numbers: `ports_row` and `general_row` take any, and an enum would ask more of their callers.
+// The kinds of the ports: not used (0), MII, reserved, EBus, fast hot connect.
+// They stay numbers: `ports_row` and `general_row` take any, and an enum would ask more of their callers.
 #[derive(Clone, Copy)]
 pub struct PhysicalPorts {
     pub port0: u8,
