@@ -2,15 +2,13 @@
 // The Rust leaves this to its callers. The rule is specs/Row.antt, and the contract `Promised` says that the call follows it; what that comes to is one statement, specs/Demand.antt.
 #![tactic(auto)]
 
-ghost use Rattle.std.specs.Prelude.{Ok, Err, ◌≡◌, ◌+◌, ◌≤◌, [], length, take, drop};
-ghost use Rattle.wire.specs.Bytes.{overlay};
+ghost use Rattle.std.specs.Prelude.{Ok, Err, ◌≡◌, ◌≤◌, [], length, take};
 ghost use Rattle.pdu.specs.Pdu.{area_most};
-ghost use Rattle.created_frame.specs.Frame.{fresh, rest_pushed, rest_builder, rest_next, after_rest};
 ghost use Rattle.created_frame.specs.Answers.{said_rest};
 ghost use Rattle.spread.specs.Answers.{first_of, Promised};
-ghost use Rattle.spread.specs.Row.{areas_most, zeroed, row_from, lawful, room_in, padded, Fillable};
+ghost use Rattle.spread.specs.Row.{areas_most, row_from, lawful, room_in, padded, begun_state, begun_area, Fillable};
 
-use created_frame::{Builder, PDU_OVERHEAD_BYTES, PduResponseHandle, RestPush};
+use created_frame::{Builder, PDU_OVERHEAD_BYTES, PduResponseHandle};
 use pdu::AREA_MOST;
 use refusal::Refusal;
 
@@ -123,42 +121,22 @@ fn taken_of(r: Result<Option<(usize, PduResponseHandle)>, Refusal>) -> usize
 {
     match r {
         Ok(Some((taken, _))) => taken,
-        _ => 0,
+        Ok(None) | Err(_) => 0,
     }
 }
 
-// The area of `size` bytes at `at` is opened, which gives the state of an empty one.
-#[tactic(auto, using(crate::proofs::Parts::opened_ok))]
-fn open_at(areas: &mut [u8], at: usize, size: usize) -> Builder
-    requires { (at + size ≤ length areas.old) × (size ≤ area_most) }
-    ensures state { result ≡ fresh }
-    ensures whole { areas.new ≡ overlay areas.old at (zeroed size) }
+// The state that area k begins with: the first has one, and the others are opened.
+#[tactic(auto, using(crate::proofs::Parts::opened_ok), unfolding(crate::specs::Row::zeroed, created_frame::specs::Frame::after_open))]
+fn begun(area: &mut [u8], k: usize, first: Builder) -> Builder
+    requires { length area.old ≤ area_most }
+    ensures state { result ≡ begun_state k first }
+    ensures whole { area.new ≡ begun_area k area.old }
 {
-    let area = &mut areas[at..at + size];
-    created_frame::open(area).unwrap()
-}
-
-// As many bytes of the image, from `from` on, as fit are pushed into that area, whose state is b.
-fn push_at(
-    areas: &mut [u8],
-    at: usize,
-    size: usize,
-    b: Builder,
-    index: u8,
-    command: u8,
-    address: u32,
-    image: &[u8],
-    from: usize,
-) -> RestPush
-    requires { (at + size ≤ length areas.old) × (from ≤ length image.now) }
-    ensures answer { said_rest result.answer ≡ rest_pushed size b index command (length (drop from image.now)) }
-    ensures state { (result.builder ≡ rest_builder size b command (length (drop from image.now)))
-        × (result.next ≡ rest_next size b index command (length (drop from image.now))) }
-    ensures whole { areas.new ≡
-        overlay areas.old at (after_rest (take size (drop at areas.old)) b index command address (drop from image.now)) }
-{
-    let area = &mut areas[at..at + size];
-    created_frame::push_pdu_slice_rest(area, b, index, command, address, &image[from..])
+    if k == 0 {
+        first
+    } else {
+        created_frame::open(area).unwrap()
+    }
 }
 
 // The image goes into the areas, which have room for it.
@@ -179,33 +157,24 @@ fn carry(
     ensures whole { areas.new ≡ (row_from size command address count (take size areas.old) first index 0 areas.old image.now).areas }
 {
     let mut states = no_states();
-    if image.is_empty() {
-        return Spreading {
-            answer: Ok(0),
-            states,
-            next: index,
-        };
-    }
-    let s = push_at(areas, 0, size, first, index, command, address, image, 0);
-    states[0] = s.builder;
-    let mut k: usize = 1;
-    let mut at = size;
-    let mut sent = taken_of(s.answer);
-    let mut i = s.next;
+    let mut k: usize = 0;
+    let mut sent: usize = 0;
+    let mut next = index;
     // A `while` and no `for`: each push takes as many bytes as have room, and how many areas that makes is the answer.
     while sent < image.len() {
-        let opened = open_at(areas, at, size);
+        let at = k * size;
+        let area = &mut areas[at..at + size];
+        let b = begun(area, k, first);
         let a = address + sent as u32;
-        let p = push_at(areas, at, size, opened, i, command, a, image, sent);
+        let p = created_frame::push_pdu_slice_rest(area, b, next, command, a, &image[sent..]);
         states[k] = p.builder;
         k += 1;
-        at += size;
         sent += taken_of(p.answer);
-        i = p.next;
+        next = p.next;
     }
     Spreading {
         answer: Ok(k),
         states,
-        next: i,
+        next,
     }
 }
