@@ -11,7 +11,6 @@ ghost use Rattle.category.specs.Numbers.{tx_pdo, rx_pdo};
 ghost use Rattle.category.specs.Category.{category_said};
 ghost use Rattle.category.specs.Answers.{said_found};
 ghost use Rattle.sii.specs.General.{listed};
-ghost use Rattle.lists.specs.Layout.{sm_bytes, pdo_bytes};
 ghost use Rattle.lists.specs.Records.{Item, records, in_category, read_answer, count_said, laid_records, laid_in, back};
 ghost use Rattle.lists.specs.SyncManagers.{mode_of, recovered, usage_type_of, sm_of, sm_values, sm_zero, sm_most, sm_at, sms_of};
 ghost use Rattle.lists.specs.Fmmus.{fmmu_most, usage_admits, usage_at, usages_of, ex_at, ex_of};
@@ -195,7 +194,7 @@ impl Record for SyncManager {
 
 #[tactic(auto, unfolding(crate::specs::SyncManagers::sm_of))]
 fn sm_at(image: &[u8], chunk: Chunk, at: Pos) -> SyncManager
-    requires { at + sm_bytes < 2 ^ 32 }
+    requires { at + SYNC_M_TYPE < 2 ^ 32 }
     ensures { result ≡ sm_of image.now at }
 {
     let start_addr = word_of(image, chunk, at);
@@ -379,7 +378,7 @@ impl Record for Pdo {
 
 #[tactic(auto, unfolding(crate::specs::Pdos::entries_of))]
 fn entries(image: &[u8], chunk: Chunk, at: Pos) -> u8
-    requires { at + pdo_bytes < 2 ^ 32 }
+    requires { at + PDO_BYTES < 2 ^ 32 }
     ensures { result ≡ entries_of image.now at }
 {
     byte_of(image, chunk, at + N_ENTRY)
