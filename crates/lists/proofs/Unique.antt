@@ -1,11 +1,13 @@
 -- A list that comes back is known from its promise, by an inverse: what is said, the count and every place make the answer.
-use Prim.Native.Nat.{ℕ}
-use mathlib.Core.Path.{◌≡◌, refl, ap}
+use Prim.Native.Nat.{ℕ, ◌+◌, ◌≤◌, ◌<◌}
+use native.Mathlib.Omega.{arith}
+use mathlib.Core.Path.{◌≡◌, refl, sym, ap, ◌∙◌}
 use mathlib.Core.List.{List}
-use Rattle.std.specs.Prelude.{Result, Ok, Err}
-use Rattle.refusal.specs.Said.{Said, gives, absent, refuses}
+use Rattle.std.specs.Prelude.{Option, Some, None, MatchOption, Result, Ok, Err}
+use Rattle.refusal.specs.Said.{Said, gives, absent, refuses, said, number_value}
 use Rattle.refusal.specs.declared.Refusal.{Refusal}
 use Rattle.refusal.proofs.Unique as refusals
+use Rattle.eeprom.specs.declared.Range.{Range}
 use Rattle.lists.specs.Records.{Back, back_of}
 use Rattle.lists.specs.SyncManagers.{sm_zero, sm_most}
 use Rattle.lists.specs.Fmmus.{fmmu_most}
@@ -42,3 +44,18 @@ fmmus_unique = back_unique 0 fmmu_most (λ r. r.count) (λ r. r.items) (λ n l. 
 
 pub pdos_unique : (r s : Result PdoList Refusal) (x : Back Pdo) → back_pdos r ≡ x → back_pdos s ≡ x → r ≡ s
 pdos_unique = back_unique pdo_zero pdo_most (λ r. r.count) (λ r. r.items) (λ n l. record { count = n; items = l }) (λ r. refl)
+
+-- ---- reading records
+
+-- how many they are, or the refusal
+pub count_unique : (r s : Result ℕ Refusal) (x : Said) → said number_value r ≡ x → said number_value s ≡ x → r ≡ s
+count_unique = refusals.number_unique
+
+-- the rest behind n bytes
+pub rest_unique : (rest : Range) (n : ℕ) (a b : Option Range) →
+    MatchOption a (rest.end < rest.byte_pos + n) (λ g. (rest.byte_pos + n ≤ rest.end) × (g ≡ record { byte_pos = rest.byte_pos + n; end = rest.end })) →
+    MatchOption b (rest.end < rest.byte_pos + n) (λ g. (rest.byte_pos + n ≤ rest.end) × (g ≡ record { byte_pos = rest.byte_pos + n; end = rest.end })) → a ≡ b
+rest_unique rest n None None p q = refl
+rest_unique rest n None (Some h) p q = absurd (let z : ⊥ = omega (arith, q.0) in z)
+rest_unique rest n (Some g) None p q = absurd (let z : ⊥ = omega (arith, p.0) in z)
+rest_unique rest n (Some g) (Some h) p q = ap Some (p.1 ∙ sym q.1)
