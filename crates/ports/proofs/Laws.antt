@@ -94,13 +94,8 @@ map-active p t u a b c d = map-those t u (active_at p) places (a, (b, (c, (d, tt
 -- ---- the active ports of a device, over its four places
 
 module _ (p : Ports) where
-  -- the entry among the first k places
-  abbrev pub entry_among : ℕ → ℕ
-  entry_among zero = nowhere
-  entry_among (suc k) = taking (active_at p) (sooner (time_at p)) (entry_among k) k
-
-  pub entry_steps : entry_among nowhere ≡ entry p
-  unfolding entry earliest active_ports folded
+  pub entry_steps : folded (taking (active_at p) (sooner (time_at p))) nowhere places ≡ entry p
+  unfolding entry earliest active_ports
   entry_steps = sym (folded-those (active_at p) (sooner (time_at p)) nowhere places)
 
   pub last_steps : pick (active_at p 3) 3 (pick (active_at p 2) 2 (pick (active_at p 1) 1 (pick (active_at p 0) 0 nowhere))) ≡ last_of (active_ports p)
@@ -150,10 +145,10 @@ pub all_active : (P : ℕ → Type 0) (p : Ports) → ((k : ℕ) → k < nowhere
 unfolding active_ports
 all_active P p h = all_those P (active_at p) places (h 0 (omega arith), (h 1 (omega arith), (h 2 (omega arith), (h 3 (omega arith), tt))))
 
-abbrev Low : List ℕ → Type 0
+abbrev pub Low : List ℕ → Type 0
 Low = All (λ (k : ℕ). k < nowhere)
 
-low_active : (p : Ports) → Low (active_ports p)
+pub low_active : (p : Ports) → Low (active_ports p)
 low_active p = all_active (λ (k : ℕ). k < nowhere) p (λ (k : ℕ) (h : k < nowhere) (a : active_at p k ≡ true). h)
 
 module _ (t : ℕ → ℕ) where

@@ -14,10 +14,15 @@ use Rattle.ports.proofs.Laws.{at_each, last_steps, first-those}
 
 -- ---- the array, by its places
 
-filter-map : (test : Port → Bool) (at : ℕ → Port) (ks : List ℕ) → filter test (map at ks) ≡ map at (those (λ (k : ℕ). test (at k)) ks)
+pub filter-map : {B : Type 0} (test : B → Bool) (at : ℕ → B) (ks : List ℕ) → filter test (map at ks) ≡ map at (those (λ (k : ℕ). test (at k)) ks)
 unfolding those
 filter-map test at [] = refl
-filter-map test at (k ∷ ks) = grind (arith, filter-map test at ks)
+filter-map {B} test at (k ∷ ks) = go (test (at k)) (filter-map test at ks)
+  where
+    go : (b : Bool) → filter test (map at ks) ≡ map at (those (λ (k : ℕ). test (at k)) ks)
+        → cond b (at k ∷ filter test (map at ks)) (filter test (map at ks)) ≡ map at (pick b (k ∷ those (λ (k : ℕ). test (at k)) ks) (those (λ (k : ℕ). test (at k)) ks))
+    go true e = ap (λ (l : List B). at k ∷ l) e
+    go false e = e
 
 folded-fold : (f : ℕ → ℕ → ℕ) (x : ℕ) (ks : List ℕ) → fold f x ks ≡ folded f x ks
 unfolding folded

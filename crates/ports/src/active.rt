@@ -1,36 +1,19 @@
 // The list of active ports, gone through place by place: the entry, the last, the count, the one with a link.
 ghost use Rattle.std.specs.Prelude.{◌≡◌, ◌<◌, ◌≤◌, length, IfSome, unwrap_or};
-ghost use Rattle.ports.specs.Ports.{port_count, nowhere, active_at, time_at, linked_at, first_that, taking, sooner, last_of, active_ports, entry};
+ghost use Rattle.ports.specs.Ports.{port_count, nowhere, linked_at, first_that, last_of, active_ports, entry};
 
 use crate::Ports;
-use crate::place::PLACE_COUNT;
 
-// The place best (none yet), or the place k if it is active and earlier.
-fn earlier(p: Ports, best: Option<usize>, k: usize) -> Option<usize>
-    requires { (k < nowhere) × IfSome best (λ b. b < nowhere) }
-    ensures place { unwrap_or result nowhere ≡ taking (active_at p) (sooner (time_at p)) (unwrap_or best nowhere) k }
-    ensures inside { IfSome result (λ b. b < nowhere) }
-{
-    if !p.0[k].active {
-        return best;
-    }
-    match best {
-        Some(b) if p.0[b].dc_receive_time <= p.0[k].dc_receive_time => best,
-        _ => Some(k),
-    }
-}
-
-// The entry's place; none where no port is active.
-#[tactic(auto, using(crate::proofs::Laws::entry_steps))]
+// The entry's place: of the active ports, that with the smallest time, the first where they are equal. None where no port is active.
 pub(crate) fn entry_place(p: Ports) -> Option<usize>
     ensures place { unwrap_or result nowhere ≡ entry p }
     ensures inside { IfSome result (λ k. k < nowhere) }
 {
-    let mut best = None;
-    for k in 0..PLACE_COUNT {
-        best = earlier(p, best, k);
-    }
-    best
+    p.0.iter()
+        .enumerate()
+        .filter(|(_, q)| q.active)
+        .min_by_key(|(_, q)| q.dc_receive_time)
+        .map(|(k, _)| k)
 }
 
 // The highest active place.

@@ -1,5 +1,5 @@
 // The text of a device's ports, word by word into a lent buffer.
-ghost use Rattle.std.specs.Prelude.{◌≡◌, ◌+◌, ◌<◌, ◌≤◌, length};
+ghost use Rattle.std.specs.Prelude.{◌≡◌, ◌+◌, ◌≤◌, length};
 ghost use Rattle.wire.specs.Bytes.{laid, overlay};
 ghost use Rattle.ports.specs.Display.{opening, word_of, word_most, words, text_of, text_most};
 ghost use Rattle.ports.specs.Ports.{port_count};
