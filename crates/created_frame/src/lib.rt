@@ -166,8 +166,8 @@ pub fn handle_row(h: PduResponseHandle) -> [u64; 4]
     [
         h.start as u64,
         h.size as u64,
-        h.index as u64,
-        h.command as u64,
+        u64::from(h.index),
+        u64::from(h.command),
     ]
 }
 

@@ -8,7 +8,6 @@ ghost use Rattle.pdu.specs.Read.{length_of, rightly};
 ghost use Rattle.pdu.specs.Answers.{said_header, header_bytes_of, header_said, header_left, pdu_values};
 
 use refusal::Refusal;
-use wire::flag;
 
 // The bytes of a PDU's header; of a PDU over its payload, which are its header and the working counter behind the payload; and of a frame's header.
 pub const HEADER_BYTES: usize = 10;
@@ -86,15 +85,15 @@ pub fn pdu_row(p: PduFields) -> [u64; 9]
     ensures { result ≡ pdu_values p }
 {
     [
-        p.command as u64,
-        p.index as u64,
-        p.address as u64,
-        p.len as u64,
-        flag(p.circulated),
-        flag(p.more_follows),
-        p.irq as u64,
+        u64::from(p.command),
+        u64::from(p.index),
+        u64::from(p.address),
+        u64::from(p.len),
+        u64::from(p.circulated),
+        u64::from(p.more_follows),
+        u64::from(p.irq),
         p.place as u64,
-        p.counter as u64,
+        u64::from(p.counter),
     ]
 }
 
@@ -103,7 +102,7 @@ pub fn pdu_row(p: PduFields) -> [u64; 9]
 pub fn ends_rightly(at: usize, end: usize, flags: u16) -> bool
     ensures { result ≡ rightly at end flags }
 {
-    let n = PDU_OVERHEAD_BYTES + ((flags % LENGTH_PAST) as usize);
+    let n = PDU_OVERHEAD_BYTES + usize::from(flags % LENGTH_PAST);
     if end < at {
         return false;
     }

@@ -69,12 +69,6 @@ area_in k count size all h g =
     let l : suc k * size ≤ count * size = mul-le-mul_right size h in
     omega arith
 
--- a row fits a machine word many times, and so does what its later areas have room for
-pub row_small : (count size all : ℕ) → count * size ≡ all → count ≤ 32 → size ≤ 2047 → all ≤ 65504
-row_small count size all e h k =
-    let l : count * size ≤ 32 * size = mul-le-mul_right size h in
-    omega arith
-
 module _ (size command address : ℕ) where
   -- ---- one area more, or none
 
