@@ -45,16 +45,6 @@ pub header-room : (used room : ℕ) → frame_header_bytes ≤ room → header_s
 unfolding header_told
 header-room used room h = rw (le-ltb room frame_header_bytes h)
 
--- absent: the row stays
-pub told-absent : (t : Said) (row : List ℕ) → absent ≡ t → (255 ≡ code_of t) × (row ≡ row_over row t)
-unfolding row_over
-told-absent t row e = told absent t 255 row row e (refl, sym (laid_none row 0))
-
--- a test as a number, in either crate's words
-pub bit-pick : (t : Bool) → bit t ≡ pick t 1 0
-bit-pick true = refl
-bit-pick false = refl
-
 -- ---- a refusal
 
 -- its values are no more than its row has

@@ -3,20 +3,17 @@ use Prim.Native.Nat.{ℕ, ◌+◌, ◌-◌, ◌%◌, ◌≤◌}
 use native.Mathlib.Omega.{arith}
 use mathlib.Core.Path.{◌≡◌, refl, sym}
 use mathlib.Core.Bool.{Bool, true, false}
-use mathlib.Core.List.{List, [], ◌∷◌, flat_map}
+use mathlib.Core.List.{List, [], ◌∷◌}
 use lib.ListN.{length, take, length-append, length-map}
 use lib.Seq.{take_at}
 use lib.Dec.{eqb}
 use Rattle.refusal.specs.Said.{pick}
-use Rattle.wire.specs.Bytes.{le16, laid}
+use Rattle.wire.specs.Bytes.{le16}
 use Rattle.pdu.specs.declared.PduFields.{PduFields}
 use Rattle.pdu.specs.Pdu.{pdus_most}
-use Rattle.pdu.specs.Answers.{pdu_values}
 use Rattle.pdu.specs.Read.{Places, bad, good, headed, places_at, frame_of, seen_at, seen_all, read_of, pdus_of}
 use Rattle.pdu.proofs.Laws.{Few, few-places}
 use Rattle.frame_reader.specs.Answers.{unused, padded}
-use Rattle.export.specs.Told.{pdus_over}
-use Rattle.export.proofs.Flat.{laid_on}
 
 few_seen : (s : List ℕ) (R : Places) → Few R 2047 → length (pdus_of (seen_all s R)) ≤ pdus_most
 unfolding Few

@@ -6,7 +6,7 @@ use native.Mathlib.Omega.{arith}
 use mathlib.Core.List.{List, [], ◌∷◌, map}
 use lib.ListN.{length}
 use lib.Dec.{ltb, eqb}
-use borrow.Author.Tests.{lt-ltb, le-ltb, le-leb, eq-eqb, ne_eqb, ltb-true, ltb-false, eqb-true}
+use borrow.Author.Tests.{lt-ltb, le-ltb, le-leb, lt-leb, eq-eqb, ne_eqb, ltb-true, ltb-false, eqb-true}
 use Rattle.refusal.specs.Said.{pick}
 use Rattle.wire.specs.Bytes.{le16}
 use Rattle.pdu.specs.declared.PduFields.{PduFields}
@@ -112,6 +112,18 @@ few-places (suc f) s i end = few-body (λ next. places_at f s next end) i end (l
 -- ---- a whole frame
 
 module _ (s : List ℕ) where
+  pub headed-short : length s < 2 → headed s ≡ false
+  unfolding headed
+  headed-short lt = rw (lt-leb 2 (length s) lt)
+
+  pub headed_type : 2 ≤ length s → (le16 s 0 / 4096 ≡ 1 → ⊥) → headed s ≡ false
+  unfolding headed
+  headed_type le ne = rw (le-leb 2 (length s) le, ne_eqb (le16 s 0 / 4096) 1 ne)
+
+  pub headed-long : 2 ≤ length s → le16 s 0 / 4096 ≡ 1 → length s < length_of (le16 s 0) + 2 → headed s ≡ false
+  unfolding headed
+  headed-long le e lt = rw (le-leb 2 (length s) le, eq-eqb (le16 s 0 / 4096) 1 e, lt-leb (length_of (le16 s 0) + 2) (length s) lt)
+
   pub headed-fine : 2 ≤ length s → le16 s 0 / 4096 ≡ 1 → length_of (le16 s 0) + 2 ≤ length s → headed s ≡ true
   unfolding headed
   headed-fine le e fit = rw (le-leb 2 (length s) le, eq-eqb (le16 s 0 / 4096) 1 e, le-leb (length_of (le16 s 0) + 2) (length s) fit)

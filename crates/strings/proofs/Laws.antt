@@ -10,15 +10,16 @@ use lib.ListN.{length, get_or, set, length-append}
 use lib.Dec.{eqb, ltb, leb}
 use borrow.Author.Tests.{lt-ltb, le-ltb, le-leb, lt-leb, eq-eqb, ne_eqb, ltb-true, ltb-false, leb-true, leb-false}
 use Rattle.refusal.specs.Said.{Said, gives, absent, refuses, on2, on3, pick}
+use Rattle.refusal.proofs.Tests.{both}
 use Rattle.wire.specs.Bytes.{byte_at, span, overlay}
 use Rattle.wire.proofs.Laws.{span-add, length-overlay, overlay-next, overlay-none}
 use Rattle.wire.proofs.Stretch.{overlay-one}
-use Rattle.eeprom.specs.Image.{image_most, fine}
+use Rattle.eeprom.specs.Image.{image_most, within, fine}
 use Rattle.eeprom.specs.Range.{byte_said, exact_said}
 use Rattle.eeprom.proofs.Laws.{bounds_of, fine-bounds, exact_gives, exact_none, exact_refuses, exact_given}
 use Rattle.category.specs.Numbers.{strings}
 use Rattle.category.specs.Category.{category_said}
-use Rattle.strings.specs.Strings.{string_past, passed_one, passed, on_exact, fitted, string_here, string_behind, string_in, sought_at, ascii, shown}
+use Rattle.strings.specs.Strings.{string_past, passed_one, passed, on_exact, fitted, string_here, string_behind, string_in, sought_at, ascii, shown, room_most, fits}
 use Rattle.strings.specs.Answers.{Small}
 
 -- ---- the rule of the last index
@@ -226,3 +227,10 @@ module _ (image : List ℕ) (at : ℕ) (room₀ : List ℕ) where
         size = rw r (length-overlay room k (shown (b ∷ [])) fits' ∙ l.size);
         same = rw (more, r) (ap (λ (x : List ℕ). overlay x k (shown (b ∷ []))) l.same ∙ rw (← z) (overlay-next room₀ 0 text (shown (b ∷ [])) fits));
       }
+
+-- ---- the bounds of image and room
+
+module _ (image : List ℕ) (k : ℕ) (t : Bool) (e : t ≡ fits image k) where
+  pub fits-room : t ≡ true → k ≤ room_most
+  unfolding fits
+  fits-room p = leb-true k room_most (both (within image) (leb k room_most) (sym e ∙ p)).1

@@ -1,6 +1,4 @@
 -- `put_header` lays the two bytes where there are some.
-use mathlib.Core.Path.{ap, sym, ◌∙◌}
-use Rattle.pdu.specs.Answers.{said_header, header_bytes_of}
 use Rattle.export.specs.Told.{bytes_over}
 use Rattle.export.proofs.frame.put_header.Goals as goal
 

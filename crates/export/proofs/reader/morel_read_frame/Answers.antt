@@ -1,6 +1,6 @@
 -- `morel_read_frame` lays the count, then the PDUs behind it; a refused frame has none.
 use mathlib.Core.Path.{ap, ◌∙◌}
-use Rattle.export.specs.Told.{code_of, pdus_over}
+use Rattle.export.specs.Told.{pdus_over}
 use Rattle.export.proofs.Pdus.{pdus-most, read-pdus, read-none}
 use Rattle.export.proofs.reader.morel_read_frame.Goals as goal
 
