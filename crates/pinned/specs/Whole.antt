@@ -40,15 +40,12 @@ use Rattle.export.specs.contracts as of-export
 abbrev pub Contract : {M : Type 1} → Ura M → Ended → Type 2
 Contract 𝓤 T = (𝓛 : Logic 𝓤) → (Memory → SProp 𝓤) → (Routine → Fun 𝓤) → Clauses 𝓤 T
 
--- the arguments with the width m, which is the second, the third or the fourth of them
+-- the arguments with the width m, which is the second or the third of them
 abbrev pub second : {L X Y : Type 0} → L → Chunk → X × (Chunk × Y) → X × (Chunk × Y)
 second κs m a = (a.0, (m, a.1.1))
 
 abbrev pub third : {L X Y Z : Type 0} → L → Chunk → X × (Y × (Chunk × Z)) → X × (Y × (Chunk × Z))
 third κs m a = (a.0, (a.1.0, (m, a.1.1.1)))
-
-abbrev pub fourth : {L X Y Z W : Type 0} → L → Chunk → X × (Y × (Z × (Chunk × W))) → X × (Y × (Z × (Chunk × W)))
-fourth κs m a = (a.0, (a.1.0, (a.1.1.0, (m, a.1.1.1.1))))
 
 -- the last values for one width are those for the other
 abbrev pub IsAlike : {L B X : Type 0} → L → B → Chunk → X → X → Type 0
@@ -206,7 +203,7 @@ module _ {M : Type 1} {𝓤 : Ura M} (𝓛 : Logic 𝓤) (mem : Memory → SProp
     pub «held::EepromRange::read_exact» : Wide of-held.EepromRange.read_exact.ended of-held.EepromRange.read_exact.clauses second IsAlike
     pub «held::EepromRangeMut::new» : Whole of-held.EepromRangeMut.new.ended of-held.EepromRangeMut.new.clauses
     pub «held::EepromRangeMut::write» : Whole of-held.EepromRangeMut.write.ended of-held.EepromRangeMut.write.clauses
-    pub «held::byte_in» : Wide of-held.byte_in.ended of-held.byte_in.clauses fourth IsAlike
+    pub «held::byte_in» : Wide of-held.byte_in.ended of-held.byte_in.clauses third IsAlike
     pub «held::write_in» : Whole of-held.write_in.ended of-held.write_in.clauses
     pub «held::set_receive_times» : Whole of-held.set_receive_times.ended of-held.set_receive_times.clauses
     pub «held::assign_next_downstream_port» : Whole of-held.assign_next_downstream_port.ended of-held.assign_next_downstream_port.clauses
