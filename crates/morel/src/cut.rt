@@ -1,5 +1,5 @@
 // An image that is cut: what lies past its end reads as 0xFF, and what was read there is marked.
-use crate::text::{decimal, say};
+use crate::report::Report;
 use category::category_inside;
 use eeprom::Chunk;
 
@@ -13,28 +13,18 @@ fn whole(image: &[u8]) -> usize {
     if image.len() < SIZE_END {
         return FIXED_END;
     }
-    match sii::size(image, Chunk::Eight) {
-        Ok(n) => n as usize,
-        Err(_) => FIXED_END,
-    }
+    sii::size(image, Chunk::Eight).map_or(FIXED_END, |size| size as usize)
 }
 
 // The line of an image that has fewer.
-pub(crate) fn print(rt: &impl Print, image: &[u8]) {
+pub(crate) fn print(report: &Report<'_, impl Print>, image: &[u8]) {
     let most = whole(image);
-    let have = image.len();
-    if have < most {
-        say(rt, b"image cut: ");
-        decimal(rt, (most - have) as u64);
-        say(rt, b" of ");
-        decimal(rt, most as u64);
-        say(rt, b" bytes are missing and read as 0xff\n");
+    let missing = most.saturating_sub(image.len());
+    if 0 < missing {
+        report.note(format_args!(
+            "image cut: {missing} of {most} bytes are missing and read as 0xff"
+        ));
     }
-}
-
-// Whether the bytes up to this end are not all in the image.
-pub(crate) fn ends_before(image: &[u8], end: usize) -> bool {
-    image.len() < end
 }
 
 // Whether a byte that the search for a category looks at, or one of the category, is not in the image. A search that is refused in an image that is
