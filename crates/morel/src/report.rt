@@ -53,7 +53,7 @@ impl<'a, R: Print> Report<'a, R> {
         let mut name = ArrayString::<COLUMN>::new();
         let _ = write!(name, "{label}");
         let mark = if self.cut { " (cut)" } else { "" };
-        let _ = println!(self.rt; "{name:<28}{value}{mark}");
+        let _ = println!(self.rt; "{name:<COLUMN$}{value}{mark}");
         if self.cut {
             self.wrong();
         }
