@@ -11,7 +11,7 @@ ghost use Rattle.frame_reader.specs.Walk.{walked_of, placed, listing};
 
 use pdu::{
     ADDRESS_AT, CIRCULATED_BIT, FLAGS_AT, FRAME_HEADER_BYTES, HEADER_BYTES, INDEX_AT, IRQ_AT,
-    LENGTH_PAST, MORE_BIT, PDU_OVERHEAD_BYTES, PDUS_MOST, PduFields, TYPE_BIT, ends_rightly,
+    LENGTH_PAST, MORE_BIT, PDU_OVERHEAD_BYTES, PDUS_MOST, PduFields, ends_rightly, pdus_end,
 };
 use refusal::Refusal;
 use wire::{byte_at, long_at, word_at};
@@ -49,26 +49,16 @@ pub fn read_frame(s: &[u8]) -> Result<FrameRead, Refusal>
 }
 
 // How many PDUs the frame has; each one's start goes into `out`.
-#[tactic(auto, unfolding(pdu::specs::Read::frame_of, pdu::specs::Read::headed, crate::specs::Walk::walked_of, crate::specs::Walk::placed, crate::specs::Walk::stored))]
+#[tactic(auto, unfolding(pdu::specs::Read::frame_of, crate::specs::Walk::walked_of, crate::specs::Walk::placed, crate::specs::Walk::stored))]
 fn find_pdus(s: &[u8], out: &mut [u16]) -> Option<usize>
     requires { length out.old ≡ pdus_most }
     ensures { (result ≡ walked_of 0 (frame_of s.now)) × (out.new ≡ placed 0 (frame_of s.now) out.old) }
 {
-    if s.len() < FRAME_HEADER_BYTES {
-        return None;
-    }
-    let w = word_at(s, 0);
-    let n = usize::from(w % LENGTH_PAST);
-    if w / TYPE_BIT != 1 {
-        return None;
-    }
-    if s.len() - FRAME_HEADER_BYTES < n {
-        return None;
-    }
-    if n == 0 {
+    let end = pdus_end(s)?;
+    if end == FRAME_HEADER_BYTES {
         return Some(0);
     }
-    header(s, FRAME_HEADER_BYTES, n + FRAME_HEADER_BYTES, 0, out)
+    header(s, FRAME_HEADER_BYTES, end, 0, out)
 }
 
 // The PDUs from `at` to `end`, the k-th first: each one's start goes into `out`, unless there is a fault behind it.

@@ -4,10 +4,11 @@
 
 ghost use Rattle.std.specs.Prelude.{◌≡◌};
 ghost use Rattle.pdu.specs.Pdu.{header_of};
-ghost use Rattle.pdu.specs.Read.{length_of, rightly};
+ghost use Rattle.pdu.specs.Read.{length_of, pdus_end, rightly};
 ghost use Rattle.pdu.specs.Answers.{said_header, header_bytes_of, header_said, header_left, pdu_values};
 
 use refusal::Refusal;
+use wire::word_at;
 
 // The bytes of a PDU's header; of a PDU over its payload, which are its header and the working counter behind the payload; and of a frame's header.
 pub const HEADER_BYTES: usize = 10;
@@ -95,6 +96,25 @@ pub fn pdu_row(p: PduFields) -> [u64; 9]
         p.place as u64,
         u64::from(p.counter),
     ]
+}
+
+// Where the PDUs of a frame end: its header is there, of type 1, and its length lies within the bytes. Of other bytes it is none.
+#[tactic(auto, unfolding(crate::specs::Read::headed))]
+pub fn pdus_end(s: &[u8]) -> Option<usize>
+    ensures { result ≡ pdus_end s.now }
+{
+    if s.len() < FRAME_HEADER_BYTES {
+        return None;
+    }
+    let w = word_at(s, 0);
+    let end = usize::from(w % LENGTH_PAST) + FRAME_HEADER_BYTES;
+    if w / TYPE_BIT != 1 {
+        return None;
+    }
+    if s.len() < end {
+        return None;
+    }
+    Some(end)
 }
 
 // The PDU at `at` with these flags ends rightly: at `end` if it is the last, before it if more follow.

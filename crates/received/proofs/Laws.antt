@@ -1,6 +1,6 @@
 -- Laws of the definitions: the handles in a row, a verdict, the walk's steps and its end, the list that grows. One for each way that a test goes.
 use mathlib.Core.Path.{◌≡◌, refl, ap, sym, ◌∙◌}
-use Rattle.std.specs.Prelude.{Option, Some, None, Result, Ok, Err}
+use Rattle.std.specs.Prelude.{Result, Ok, Err}
 use Rattle.std.specs.Simd.{first_chunks}
 use Rattle.std.proofs.lemmas.List.{drop_all}
 use mathlib.Core.Bool.{Bool, true, false}
@@ -11,7 +11,6 @@ use mathlib.Core.List.{List, [], ◌∷◌, ◌++◌, map, append_assoc, append-
 use lib.ListN.{length, set, get_or, drop, replicate, length-append, length-drop, length-map, get_or-map}
 use lib.Seq.{drop-cons, set_at}
 use borrow.Author.Tests.{eq-eqb, ne_eqb}
-use Rattle.refusal.specs.Said.{pick}
 use Rattle.refusal.specs.declared.Refusal.{Refusal}
 use Rattle.refusal.specs.declared.Refusal.TheVariants.{BadArgument, WrongFrame}
 use Rattle.wire.specs.Bytes.{byte_at, le16}
@@ -255,22 +254,6 @@ module _ {hs : List PduResponseHandle} {s : List ℕ} {end at k : ℕ} {pdus : L
         ap told (sym (ends (got []) done) ∙ ap got (append-nil g.so_far)) ∙ rw (← g.counted, ← g.listed) refl
 
 -- ---- the call's ways out
-
--- where the PDUs end is known of a frame that is headed, and of no other
-module _ (s : List ℕ) (r : Option ℕ) (is : r ≡ pick (headed s) (Some (length_of (le16 s 0) + 2)) None) where
-  pub headless : r ≡ None → headed s ≡ false
-  headless e = go (headed s) refl is
-    where
-      go : (b : Bool) → headed s ≡ b → r ≡ pick b (Some (length_of (le16 s 0) + 2)) None → headed s ≡ false
-      go true h q = let z : ◌≡◌ {A = ℕ} 0 1 = cc in absurd (omega arith)
-      go false h q = h
-
-  pub headed-end : (end : ℕ) → r ≡ Some end → (headed s ≡ true) × (end ≡ length_of (le16 s 0) + 2)
-  headed-end end e = go (headed s) refl is
-    where
-      go : (b : Bool) → headed s ≡ b → r ≡ pick b (Some (length_of (le16 s 0) + 2)) None → (headed s ≡ true) × (end ≡ length_of (le16 s 0) + 2)
-      go true h q = (h, cc)
-      go false h q = let z : ◌≡◌ {A = ℕ} 0 1 = cc in absurd (omega arith)
 
 module _ (row s : List ℕ) (r : Result Received Refusal) where
   pub receive_bad : (length row % 4 ≡ 0 → ⊥) → r ≡ told (refused BadArgument) → r ≡ told (received_of row s)

@@ -2,17 +2,16 @@
 // The place decides: the k-th handle is the k-th PDU's, whatever their indices are.
 #![tactic(auto)]
 
-ghost use Rattle.std.specs.Prelude.{◌≡◌, ◌+◌, ◌≤◌, ◌<◌, [], ◌∷◌, map, Some, None};
-ghost use Rattle.refusal.specs.Said.{pick};
-ghost use Rattle.wire.specs.Bytes.{word_past, le16};
+ghost use Rattle.std.specs.Prelude.{◌≡◌, ◌+◌, ◌≤◌, ◌<◌, [], ◌∷◌, map};
+ghost use Rattle.wire.specs.Bytes.{word_past};
 ghost use Rattle.pdu.specs.Pdu.{area_most, frame_header_bytes};
-ghost use Rattle.pdu.specs.Read.{length_of, headed, seen_at};
+ghost use Rattle.pdu.specs.Read.{seen_at};
 ghost use Rattle.received.specs.Matching.{handle_of, came_back, judged, matched_at, received_of};
 ghost use Rattle.received.specs.Answers.{told};
 
 use pdu::{
     FLAGS_AT, FRAME_HEADER_BYTES, HEADER_BYTES, INDEX_AT, LENGTH_PAST, PDU_OVERHEAD_BYTES,
-    PDUS_MOST, TYPE_BIT, ends_rightly,
+    PDUS_MOST, ends_rightly, pdus_end,
 };
 use refusal::Refusal;
 use wire::{byte_at, word_at};
@@ -54,25 +53,6 @@ pub fn receive(handles: &[u64], frame: &[u8]) -> Result<Received, Refusal>
     }
     let end = pdus_end(frame).ok_or(Refusal::WrongFrame { place: 0 })?;
     match_all(handles, frame, end)
-}
-
-// Where the PDUs of a frame end: its header is there, of type 1, and its length lies within the bytes.
-#[tactic(auto, unfolding(pdu::specs::Read::headed))]
-fn pdus_end(s: &[u8]) -> Option<usize>
-    ensures { result ≡ pick (headed s.now) (Some (length_of (le16 s.now 0) + frame_header_bytes)) None }
-{
-    if s.len() < FRAME_HEADER_BYTES {
-        return None;
-    }
-    let w = word_at(s, 0);
-    let end = usize::from(w % LENGTH_PAST) + FRAME_HEADER_BYTES;
-    if w / TYPE_BIT != 1 {
-        return None;
-    }
-    if s.len() < end {
-        return None;
-    }
-    Some(end)
 }
 
 // The PDUs from the frame's header to `end`, each against its handle. A handle more than there are PDUs is judged at the end, where none ends rightly.
