@@ -140,6 +140,7 @@ module _ {M : Type 1} {𝓤 : Ura M} (𝓛 : Logic 𝓤) (mem : Memory → SProp
     «pdu::pack_header» = λ κs a g r s ws vs. one 𝓤 (λ p q. (same p q, refl));
     «pdu::frame_header» = λ κs a g r s ws vs. one 𝓤 (λ p q. (frame-header_unique _ r s p q, refl));
     «pdu::pdu_row» = λ κs a g r s ws vs. one 𝓤 (λ p q. (same p q, refl));
+    «pdu::pdus_end» = λ κs a g r s ws vs. one 𝓤 (λ p q. (same p q, refl));
     «pdu::ends_rightly» = λ κs a g r s ws vs. one 𝓤 (λ p q. (same p q, refl));
     -- ---- created_frame
     «created_frame::open» = λ κs a g r s ws vs. two 𝓤 (λ p q p' q'. (opened_unique r s _ p q, ap (λ l. (l, tt)) (same p' q')));

@@ -171,6 +171,7 @@ module _ {M : Type 1} {𝓤 : Ura M} (𝓛 : Logic 𝓤) (mem : Memory → SProp
     pub «pdu::pack_header» : Whole of-pdu.pack_header.ended of-pdu.pack_header.clauses
     pub «pdu::frame_header» : Whole of-pdu.frame_header.ended of-pdu.frame_header.clauses
     pub «pdu::pdu_row» : Whole of-pdu.pdu_row.ended of-pdu.pdu_row.clauses
+    pub «pdu::pdus_end» : Whole of-pdu.pdus_end.ended of-pdu.pdus_end.clauses
     pub «pdu::ends_rightly» : Whole of-pdu.ends_rightly.ended of-pdu.ends_rightly.clauses
     -- ---- created_frame
     pub «created_frame::open» : Whole of-created-frame.«open».ended of-created-frame.«open».clauses
