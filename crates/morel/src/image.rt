@@ -1,4 +1,5 @@
 // `morel sii`: what an EEPROM image holds, its fixed area and General here. What does not lie whole in the image is marked as cut.
+// Report and image stay two parameters: they share nothing, and a struct of both would only put `self.` before each use.
 use crate::cut::{FIXED_END, SIZE_END, category_cut};
 use crate::report::Report;
 use crate::shown::{Flags, Hex, Named, YesOrNo};

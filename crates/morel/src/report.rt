@@ -89,6 +89,7 @@ impl<'a, R: Print> Report<'a, R> {
     }
 
     // Begins a record, whose lines are marked where it is cut, and gives what was answered. A refusal has its line here.
+    // Mark and answer stay two parameters: a struct of both would be made at each call to be taken apart here.
     pub(crate) fn record<T>(
         &mut self,
         label: impl Display + Drop,

@@ -6,11 +6,12 @@ use created_frame::Builder;
 use pdu::{AREA_MOST, PDU_OVERHEAD_BYTES};
 use std::alloc::AllocError;
 
+// The PDUs' command, by the number that `spread` takes, and the address of the first.
 const LWR: u8 = 11;
 
 const ADDRESS: u32 = 0;
 
-// The most areas of a row.
+// The most areas that a row may have.
 const AREAS_MOST: u32 = 32;
 
 // An area that no PDU is in.

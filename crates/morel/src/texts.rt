@@ -56,7 +56,7 @@ fn count(image: &[u8], range: Range) -> u8 {
     }
 }
 
-// A string's line: the call lays it into the room and answers its length.
+// A string's line. The crate below allocates nothing: it lays the string into a lent room and answers its length, which is at most 255.
 fn string<F: FnOnce(&mut [u8]) -> Result<Option<u16>, Refusal>>(
     report: &mut Report<'_, impl Print>,
     label: impl Display + Drop,
