@@ -160,7 +160,8 @@ fn carry(
     let mut k: usize = 0;
     let mut sent: usize = 0;
     let mut next = index;
-    // A `while` and no `for`: each push takes as many bytes as have room, and how many areas that makes is the answer.
+    // A `while` and no `for`: each push takes as many bytes as have room, and how many areas that makes is the answer. No `chunks_mut` either:
+    // once its borrow is over, a proof knows a slice's length and not its bytes.
     while sent < image.len() {
         let at = k * size;
         let area = &mut areas[at..at + size];
