@@ -154,6 +154,7 @@ fn search(image: &[u8], chunk: Chunk, number: u16) -> Ending
 {
     let mut word = SII_FIRST_CATEGORY_START;
     let mut empties: u32 = 0;
+    // A `loop` and no `for`: each header says where the next one stands.
     loop {
         match header(image, chunk, number, word, empties) {
             Step::Done(f) => {

@@ -98,7 +98,7 @@ fn clock_at(image: &[u8], chunk: Chunk, at: Pos) -> DistributedClock
     }
 }
 
-// A record as the numbers that the list gives of it, in their order.
+// A record as the numbers that the list gives of it, in their order. A function by its name and no `From`: it is a public call with a row in `pinned`.
 pub fn clock_row(c: DistributedClock) -> [u64; 8]
     ensures { result ≡ clock_values c }
 {

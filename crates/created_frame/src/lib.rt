@@ -65,6 +65,7 @@ pub fn open(area: &mut [u8]) -> Result<Builder, Refusal>
 
 // Pushes a PDU of these bytes; its payload is as long as the larger of their count and `over`.
 // What is out of bounds is refused with 14, and a PDU that has no space with 8.
+// Index, command and address stand side by side and in no struct: the rules (`pushed`, `after_push`) and the C interface take them one by one.
 #[tactic(auto, using(crate::proofs::Laws::accepted, crate::proofs::Laws::has_room, crate::proofs::Laws::in_largest), unfolding(crate::specs::Frame::pushed, crate::specs::Frame::pushed_builder, crate::specs::Frame::pushed_next, crate::specs::Frame::after_push, crate::specs::Frame::room))]
 pub fn push_pdu(
     area: &mut [u8],
@@ -152,7 +153,7 @@ pub fn is_sound(size: usize, b: Builder) -> bool
     b.count <= b.used / PDU_OVERHEAD_BYTES && b.last <= b.used - HEADER_BYTES
 }
 
-// A state as a row of numbers: used, count, last.
+// A state as a row of numbers: used, count, last. A function by its name and no `From`: it is a public call with a row in `pinned`.
 pub fn state_row(b: Builder) -> [u64; 3]
     ensures { result ≡ state_values b }
 {
@@ -160,6 +161,7 @@ pub fn state_row(b: Builder) -> [u64; 3]
 }
 
 // A handle as a row of numbers: the PDU's place, its whole size, its index, its command.
+// A function by its name and no `From`: it is a public call with a row in `pinned`.
 pub fn handle_row(h: PduResponseHandle) -> [u64; 4]
     ensures { result ≡ handle_values h }
 {

@@ -12,7 +12,7 @@ ghost use Rattle.eeprom.specs.Answers.{said_range, said_byte, said_reading, said
 use refusal::Refusal;
 use wire::{byte_at, lay, word_at};
 
-// The width of a chunk.
+// The width of a chunk. It goes beside the image as an argument of its own: `pinned` says by its place that no answer hangs on it (`Wide`).
 #[derive(Clone, Copy)]
 pub enum Chunk {
     // 4 bytes
@@ -306,6 +306,7 @@ fn read_chunks(image: &[u8], chunk: Chunk, pos: u32, n: usize, buf: &mut [u8])
 {
     let wide = chunk.width();
     let mut done = 0;
+    // A `while` and no `for`: a first chunk that is met at its word's second byte has one byte less.
     while done < n {
         let at = pos + (done as u32);
         let m = (wide - (at % 2) as usize).min(n - done);
@@ -338,6 +339,7 @@ fn write_words(image: &mut [u8], pos: Pos, end: Pos, bytes: &[u8]) -> Standing<P
 {
     let mut at = pos;
     let mut n = 0;
+    // A `while` and no `for`: range and data end it, whichever ends first, and each of two refusals stops it between two words.
     while at < end && n < bytes.len() {
         if POS_MOST < at + 2 {
             return write_done(Err(Refusal::Address), at, end);

@@ -422,7 +422,7 @@ fn entry_bits(image: &[u8], chunk: Chunk, at: Pos, k: u8) -> u8
     )
 }
 
-// ---- each record as the numbers that a list gives of it, in their order
+// ---- each record as the numbers that a list gives of it, in their order: functions by their names and no `From`, since each is a public call with a row in `pinned`
 
 pub fn sync_manager_row(s: SyncManager) -> [u64; 9]
     ensures { result ≡ sm_values s }

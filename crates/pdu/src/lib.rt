@@ -81,7 +81,7 @@ pub fn frame_header(used: usize) -> Result<[u8; 2], Refusal>
     Ok(((used as u16) + TYPE_BIT).to_le_bytes())
 }
 
-// A PDU's fields as a row of numbers, in the order of the record; a flag is 1 or 0.
+// A PDU's fields as a row of numbers, in the order of the record; a flag is 1 or 0. A function by its name and no `From`: it is a public call with a row in `pinned`.
 pub fn pdu_row(p: PduFields) -> [u64; 9]
     ensures { result ≡ pdu_values p }
 {

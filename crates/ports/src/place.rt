@@ -6,7 +6,7 @@ ghost use Rattle.ports.specs.Ports.{port_count, nowhere, number_at, place_of, fr
 use crate::{Port, Ports};
 use refusal::Refusal;
 
-// How many places there are.
+// How many places there are. A place is a plain number below this and no type of its own: the definitions count with it (`between`, `assignable`).
 pub(crate) const PLACE_COUNT: usize = 4;
 
 // The number of the port at each place.

@@ -53,7 +53,7 @@ pub struct ValueRow {
     pub items: [u64; 2],
 }
 
-// The number by which a refusal is known (RULES, refusals).
+// The number by which a refusal is known (RULES, refusals). A function by its name and no `From`: it is a public call with a row in `pinned`.
 pub fn number(x: Refusal) -> u8
     ensures { result ≡ number_of x }
 {

@@ -135,7 +135,7 @@ fn bytes_summed(image: &[u8], chunk: Chunk) -> [u8; CHECKSUM]
     bytes
 }
 
-// ---- each record as the numbers that an answer gives, in their order
+// ---- each record as the numbers that an answer gives, in their order: functions by their names and no `From`, since each is a public call with a row in `pinned`
 
 pub fn pdi_row(p: PdiControl) -> [u64; 4]
     ensures { result ≡ pdi_values p }

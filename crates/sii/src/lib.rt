@@ -310,7 +310,7 @@ fn port_kinds(word: u16) -> PhysicalPorts
     }
 }
 
-// ---- each record as the numbers that an answer gives, in their order
+// ---- each record as the numbers that an answer gives, in their order: functions by their names and no `From`, since each is a public call with a row in `pinned`
 
 pub fn identity_row(d: SubDeviceIdentity) -> [u64; 4]
     ensures { result ≡ identity_values d }
