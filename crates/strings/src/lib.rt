@@ -26,7 +26,7 @@ const ASCII_END: u8 = 0x80;
 // Puts the string of an index into the room, and answers its length: the text stands at the front of the room. Index 0 is absent.
 // Refuses 14 where the image or the room is too long, 1 and 2 where reading fails, and 4 where the stored string is longer than the room.
 // Absent or refused, the room is as it was, here and below.
-#[tactic(auto, unfolding(crate::specs::Strings::string_said, crate::specs::Strings::text_for, crate::specs::Strings::bounded, crate::specs::Strings::length_said, crate::specs::Strings::room_behind))]
+#[tactic(auto, unfolding(crate::specs::Strings::string_said, crate::specs::Strings::text_for, crate::specs::Strings::bounded, crate::specs::Strings::text_said, crate::specs::Strings::length_said, crate::specs::Strings::room_behind, refusal::specs::Said::on2))]
 pub fn find_string(
     image: &[u8],
     chunk: Chunk,
@@ -37,8 +37,11 @@ pub fn find_string(
     ensures lent { room.new ≡ room_behind (string_said image.now index (length room.old)) room.old }
 {
     checked(image, room)?;
-    let place = sought(image, chunk, index, room.len() as u16);
-    text(image, chunk, place, room)
+    let Some((at, n)) = sought(image, chunk, index, room.len() as u16)? else {
+        return Ok(None);
+    };
+    let k = lay_text(image, chunk, at, u32::from(n), room);
+    Ok(Some(k as u16))
 }
 
 // Puts the device's name into the room, and answers its length: the string of General's order index. Absent without General.
@@ -177,28 +180,6 @@ fn fit(room: u16, n: u16, g: Range) -> Result<Option<(Pos, u16)>, Refusal>
         Ok(Some((g.byte_pos, n)))
     } else {
         Err(Refusal::Overrun)
-    }
-}
-
-// The text at a place goes to the front of the room.
-#[tactic(auto, unfolding(crate::specs::Strings::text_said, crate::specs::Strings::length_said, crate::specs::Strings::room_behind, refusal::specs::Said::on2))]
-fn text(
-    image: &[u8],
-    chunk: Chunk,
-    place: Result<Option<(Pos, u16)>, Refusal>,
-    room: &mut [u8],
-) -> Result<Option<u16>, Refusal>
-    requires { (length room.old ≤ room_most) × Small (length room.old) (said_place place) }
-    ensures said { said_string result ≡ length_said (text_said image.now (said_place place)) }
-    ensures lent { room.new ≡ room_behind (text_said image.now (said_place place)) room.old }
-{
-    match place {
-        Ok(Some((p, n))) => {
-            let k = lay_text(image, chunk, p, n as u32, room);
-            Ok(Some(k as u16))
-        }
-        Ok(None) => Ok(None),
-        Err(x) => Err(x),
     }
 }
 
