@@ -39,6 +39,7 @@ pub fn word_end(line: &[u8], from: usize) -> usize
 }
 
 // The word that starts at from; an empty one past the line's end.
+#[tactic(auto, using(crate::proofs::Laws::word_got))]
 pub fn word(line: &[u8], from: usize) -> &[u8]
     ensures { result.now ≡ word_at line.now from }
 {
@@ -74,6 +75,7 @@ fn run(word: &[u8]) -> Option<u64>
 }
 
 // The number that a word spells in decimal, leading zeros allowed.
+#[tactic(auto, unfolding(crate::specs::Numbers::number_said))]
 pub fn number(word: &[u8]) -> Option<u64>
     ensures { said_number result ≡ number_said word.now }
 {
@@ -111,7 +113,7 @@ fn is_bytes(word: &[u8]) -> bool
     }
 }
 
-// Each pair's byte at the room's front.
+// Each pair's byte at the room's front. By places: nothing is known of what a loop wrote through `iter_mut` under `zip`.
 fn put_bytes(word: &[u8], room: &mut [u8], n: usize)
     requires { (is_bytes word.now ≡ true) × (n ≡ length (bytes_of word.now)) × (n ≤ length room.old) }
     ensures { room.new ≡ laid room.old 0 (bytes_of word.now) }
@@ -155,6 +157,7 @@ pub fn say(out: &mut [u8], k: usize, text: &[u8]) -> usize
 }
 
 // The same, of a number in decimal.
+#[tactic(auto, using(crate::proofs::Laws::decimal_fewest))]
 pub fn decimal(out: &mut [u8], k: usize, n: u64) -> usize
     ensures value { result ≡ after (length out.old) k (length (decimal_of n)) }
     ensures out_after { out.new ≡ laid out.old k (decimal_of n) }
@@ -195,6 +198,7 @@ fn pairs(out: &mut [u8], k: usize, bytes: &[u8]) -> usize
 }
 
 // The same, of bytes as pairs of hex digits; `-` for none.
+#[tactic(auto, using(crate::proofs::Laws::text_none, crate::proofs::Laws::text_some))]
 pub fn hex_out(out: &mut [u8], k: usize, bytes: &[u8]) -> usize
     ensures value { result ≡ after (length out.old) k (length (hex_text bytes.now)) }
     ensures out_after { out.new ≡ laid out.old k (hex_text bytes.now) }
