@@ -1,12 +1,12 @@
 -- Laws of `rightly`, `body_at`, `places_at` and `frame_of`: one for each way that a test goes, so that no caller unfolds them.
-use mathlib.Core.Path.{◌≡◌, refl}
+use mathlib.Core.Path.{◌≡◌, refl, ◌∙◌}
 use mathlib.Core.Bool.{Bool, true, false}
 use Prim.Native.Nat.{ℕ, zero, suc, ◌+◌, ◌-◌, ◌*◌, ◌/◌, ◌≤◌, ◌<◌}
 use native.Mathlib.Omega.{arith}
 use mathlib.Core.List.{List, [], ◌∷◌, map}
 use lib.ListN.{length}
 use lib.Dec.{ltb, eqb}
-use borrow.Author.Tests.{lt-ltb, le-ltb, le-leb, lt-leb, eq-eqb, ne_eqb, ltb-true, ltb-false, eqb-true, leb-true}
+use borrow.Author.Tests.{lt-ltb, le-ltb, le-leb, lt-leb, eq-eqb, ne_eqb, ltb-true, ltb-false, eqb-true, eqb-false, leb-true}
 use Rattle.std.specs.Prelude.{Some, None}
 use Rattle.refusal.specs.Said.{pick}
 use Rattle.refusal.proofs.Tests.{both}
@@ -58,6 +58,29 @@ module _ (i end flags : ℕ) where
       go : (b : Bool) → ltb flags 32768 ≡ b → pick b (eqb (pdu_end i flags) end) (ltb (pdu_end i flags) end) ≡ true → 32768 ≤ flags
       go true t q = absurd (n (eqb-true _ _ q))
       go false t q = ltb-false _ _ t
+
+  -- counted from i on
+  same_end : i ≤ end → eqb (12 + length_of flags) (end - i) ≡ eqb (pdu_end i flags) end
+  same_end h = go (eqb (pdu_end i flags) end) refl
+    where
+      go : (b : Bool) → eqb (pdu_end i flags) end ≡ b → eqb (12 + length_of flags) (end - i) ≡ b
+      go true e = let q : pdu_end i flags ≡ end = eqb-true _ _ e in eq-eqb (12 + length_of flags) (end - i) (omega arith)
+      go false e = ne_eqb (12 + length_of flags) (end - i) (λ q. eqb-false (pdu_end i flags) end e (omega arith))
+
+  same-past : i ≤ end → ltb (12 + length_of flags) (end - i) ≡ ltb (pdu_end i flags) end
+  same-past h = go (ltb (pdu_end i flags) end) refl
+    where
+      go : (b : Bool) → ltb (pdu_end i flags) end ≡ b → ltb (12 + length_of flags) (end - i) ≡ b
+      go true e = let q : pdu_end i flags < end = ltb-true _ _ e in lt-ltb (12 + length_of flags) (end - i) (omega arith)
+      go false e = let q : end ≤ pdu_end i flags = ltb-false _ _ e in le-ltb (12 + length_of flags) (end - i) (omega arith)
+
+  pub rightly-at : i ≤ end → flags < 32768 → eqb (12 + length_of flags) (end - i) ≡ rightly i end flags
+  unfolding rightly
+  rightly-at h lt = same_end h ∙ rw (lt-ltb flags 32768 lt)
+
+  pub rightly-past : i ≤ end → 32768 ≤ flags → ltb (12 + length_of flags) (end - i) ≡ rightly i end flags
+  unfolding rightly
+  rightly-past h le = same-past h ∙ rw (le-ltb flags 32768 le)
 
 -- ---- what stands at i
 
@@ -130,6 +153,14 @@ module _ (s : List ℕ) where
   unfolding headed
   headed-fine le e fit = rw (le-leb 2 (length s) le, eq-eqb (le16 s 0 / 4096) 1 e, le-leb (length_of (le16 s 0) + 2) (length s) fit)
 
+  pub frame-short : length s < 2 → frame_of s ≡ bad
+  unfolding frame_of
+  frame-short lt = rw (headed-short lt)
+
+  pub frame_type : 2 ≤ length s → (le16 s 0 / 4096 ≡ 1 → ⊥) → frame_of s ≡ bad
+  unfolding frame_of
+  frame_type le ne = rw (headed_type le ne)
+
   -- where the PDUs end is known of a frame that is headed, and of no other
   pub end_none : pdus_end s ≡ None → headed s ≡ false
   end_none e = go (headed s) refl e
@@ -146,6 +177,10 @@ module _ (s : List ℕ) where
       go false h q = let z : ◌≡◌ {A = ℕ} 0 1 = cc in absurd (omega arith)
 
   module _ (le : 2 ≤ length s) (e : le16 s 0 / 4096 ≡ 1) where
+    pub frame-long : length s < length_of (le16 s 0) + 2 → frame_of s ≡ bad
+    unfolding frame_of
+    frame-long lt = rw (headed-long le e lt)
+
     pub frame-none : length_of (le16 s 0) ≡ 0 → frame_of s ≡ good []
     unfolding frame_of
     frame-none z =
