@@ -44,6 +44,9 @@ pub const IMAGE_MOST: usize = 131072;
 // No position and no end of a range lies beyond them.
 const POS_MOST: Pos = IMAGE_MOST as Pos;
 
+// One past the largest number of 16 bits.
+const WORD_PAST: u32 = 65536;
+
 // The image has no more bytes than it may.
 #[tactic(auto, unfolding(crate::specs::Image::within))]
 pub fn image_within(image: &[u8]) -> bool
@@ -127,7 +130,7 @@ pub fn long_of(image: &[u8], chunk: Chunk, i: u32) -> u32
     let odd = (i % 2) as usize;
     let low = word_from(image, chunk, i / 2, odd);
     let high = word_from(image, chunk, i / 2 + 1, odd);
-    (low as u32) + 65536 * (high as u32)
+    u32::from(low) + WORD_PAST * u32::from(high)
 }
 
 impl Range {
@@ -136,8 +139,8 @@ impl Range {
     pub fn new(start_word: u16, len_words: u16) -> Result<Range, Refusal>
         ensures { said_range result ≡ new_said start_word len_words }
     {
-        let from = 2 * (start_word as Pos);
-        let end = from + 2 * (len_words as Pos);
+        let from = 2 * Pos::from(start_word);
+        let end = from + 2 * Pos::from(len_words);
         if end <= POS_MOST {
             Ok(Range {
                 byte_pos: from,
@@ -164,8 +167,8 @@ impl Range {
         if !self.is_in_bounds() {
             return Err(Refusal::BadArgument);
         }
-        let to = (self.byte_pos as u64) + (skip as u64);
-        if to < (self.end as u64) {
+        let to = u64::from(self.byte_pos) + u64::from(skip);
+        if to < u64::from(self.end) {
             Ok(self.moved_to(to as Pos))
         } else {
             Err(Refusal::Overrun)
@@ -221,11 +224,46 @@ impl Range {
         ensures lent { image.new ≡ write_image image.old self.byte_pos self.end bytes.now }
     {
         match self.checked(image) {
-            Ok(()) => write_words(image, self.byte_pos, self.end, bytes),
+            Ok(()) => self.write_words(image, bytes),
             Err(x) => Standing {
                 answer: Err(x),
                 range: self,
             },
+        }
+    }
+
+    // Writes words while the position is before the end and bytes remain.
+    fn write_words(self, image: &mut [u8], bytes: &[u8]) -> Standing<Pos>
+        requires { self.end ≤ image_most }
+        ensures said { said_writing result.answer ≡ write_in (length image.old) self.byte_pos self.end (length bytes.now) }
+        ensures stands { result.range ≡ standing self (self.byte_pos + 2 * words_written (length image.old) self.byte_pos self.end (length bytes.now)) }
+        ensures lent { image.new ≡ words_laid image.old self.byte_pos (words_written (length image.old) self.byte_pos self.end (length bytes.now)) bytes.now }
+    {
+        let mut at = self.byte_pos;
+        let mut n = 0;
+        // A `while`: a `for` over the words of the data would end on the range's end by a `break`, and count the position by hand as well, so it is no plainer.
+        while at < self.end && n < bytes.len() {
+            if POS_MOST < at + 2 {
+                return self.stands_at(at, Err(Refusal::Address));
+            }
+            let start_word = (at / 2) as usize;
+            if 2 * start_word + 2 > image.len() {
+                return self.stands_at(at, Err(Refusal::NotWritable));
+            }
+            write_word(image, start_word, bytes[n], or_pad(bytes, n + 1));
+            at += 2;
+            n += 2;
+        }
+        self.stands_at(at, Ok(n as Pos))
+    }
+
+    // A write's answer, and the range at the position where it then stands.
+    fn stands_at(self, byte_pos: Pos, answer: Result<Pos, Refusal>) -> Standing<Pos>
+        ensures { result ≡ record { answer = answer; range = standing self byte_pos } }
+    {
+        Standing {
+            answer,
+            range: self.moved_to(byte_pos),
         }
     }
 
@@ -328,40 +366,4 @@ fn write_word(image: &mut [u8], start_word: usize, low: u8, high: u8)
     ensures { image.new ≡ overlay image.old (2 * start_word) (low ∷ high ∷ []) }
 {
     lay(image, 2 * start_word, &[low, high]);
-}
-
-// Writes words while the position is before the end and bytes remain.
-fn write_words(image: &mut [u8], pos: Pos, end: Pos, bytes: &[u8]) -> Standing<Pos>
-    requires { end ≤ image_most }
-    ensures said { said_writing result.answer ≡ write_in (length image.old) pos end (length bytes.now) }
-    ensures stands { (result.range.byte_pos ≡ pos + 2 * words_written (length image.old) pos end (length bytes.now)) × (result.range.end ≡ end) }
-    ensures lent { image.new ≡ words_laid image.old pos (words_written (length image.old) pos end (length bytes.now)) bytes.now }
-{
-    let mut at = pos;
-    let mut n = 0;
-    // A `while` and no `for`: range and data end it, whichever ends first, and each of two refusals stops it between two words.
-    while at < end && n < bytes.len() {
-        if POS_MOST < at + 2 {
-            return write_done(Err(Refusal::Address), at, end);
-        }
-        let start_word = (at / 2) as usize;
-        if 2 * start_word + 2 <= image.len() {
-            write_word(image, start_word, bytes[n], or_pad(bytes, n + 1));
-            at += 2;
-            n += 2;
-        } else {
-            return write_done(Err(Refusal::NotWritable), at, end);
-        }
-    }
-    write_done(Ok(n as Pos), at, end)
-}
-
-// A write's answer, and where it stands after that.
-fn write_done(answer: Result<Pos, Refusal>, byte_pos: Pos, end: Pos) -> Standing<Pos>
-    ensures { result ≡ record { answer = answer; range = record { byte_pos = byte_pos; end = end } } }
-{
-    Standing {
-        answer,
-        range: Range { byte_pos, end },
-    }
 }

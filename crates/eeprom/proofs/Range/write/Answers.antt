@@ -14,7 +14,7 @@ returns-in-Ok-clause-said c = rw (c.in-Ok.ensures) c.write_words.ensures.said
 
 pub returns-in-Ok-clause-stands : goal.returns-in-Ok-clause-stands
 unfolding write_pos
-returns-in-Ok-clause-stands c = rw (c.in-Ok.ensures) (λ i. record { byte_pos = c.write_words.ensures.stands.0 i; end = c.write_words.ensures.stands.1 i })
+returns-in-Ok-clause-stands c = rw (c.in-Ok.ensures) c.write_words.ensures.stands
 
 pub returns-in-Ok-clause-lent : goal.returns-in-Ok-clause-lent
 unfolding write_image
