@@ -120,7 +120,8 @@ impl Answers {
         }
     }
 
-    // A list's count, and the numbers of each of its items.
+    // A list's count, and the numbers of each of its items. It takes no slice of as many: that a list has no more items than places is a law
+    // of its crate and no type's, and the seven calls that would cut the slice did not prove without a proof file each.
     pub(crate) fn gives_list<T: Item>(&mut self, items: &[T], count: usize) -> Answered {
         self.gives(&[count as u64])?;
         for item in items.iter().take(count) {

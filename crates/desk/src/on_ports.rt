@@ -75,18 +75,15 @@ pub(crate) fn last(words: &mut Words, answers: &mut Answers) -> Answered {
     answers.gives_if_any(ports.last_port())
 }
 
-fn topology_number(topology: Topology) -> u64 {
-    match topology {
-        Topology::LineEnd => 1,
+pub(crate) fn topology(words: &mut Words, answers: &mut Answers) -> Answered {
+    let ports = words.last_ports()?;
+    // docs/DESK.md numbers them. There is no `From`: both the type and `u64` are of other crates.
+    answers.gives_one(match ports.topology()? {
+        Topology::LineEnd => 1u64,
         Topology::Passthrough => 2,
         Topology::Fork => 3,
         Topology::Cross => 4,
-    }
-}
-
-pub(crate) fn topology(words: &mut Words, answers: &mut Answers) -> Answered {
-    let ports = words.last_ports()?;
-    answers.gives_one(topology_number(ports.topology()?))
+    })
 }
 
 pub(crate) fn total(words: &mut Words, answers: &mut Answers) -> Answered {
@@ -94,6 +91,7 @@ pub(crate) fn total(words: &mut Words, answers: &mut Answers) -> Answered {
     answers.gives_if_any(ports.total_propagation_time())
 }
 
+// `totalfrom` and `timeto` stay two functions: what they share are two calls, and a generic one would need a bound and a clause of four lines.
 pub(crate) fn total_from(words: &mut Words, answers: &mut Answers) -> Answered {
     let (ports, entry) = words.ports_and_port()?;
     answers.gives_if_any(ports.total_propagation_time_from(entry)?)

@@ -1,8 +1,9 @@
 // The requests on the checksum and the EEPROM range. A range that has an image keeps it inside.
 use crate::answers::{Answered, Answers, Stop};
 use crate::words::Words;
-use eeprom::{Pos, Range};
+use eeprom::Range;
 use held::{EepromRange, EepromRangeMut};
+use refusal::Refusal;
 
 pub(crate) fn range_row(range: Range) -> [u64; 2] {
     [u64::from(range.byte_pos), u64::from(range.end)]
@@ -10,18 +11,34 @@ pub(crate) fn range_row(range: Range) -> [u64; 2] {
 
 impl<'a> Words<'a> {
     // R: where the range stands, and where it ends.
-    fn range(&mut self) -> Result<(Pos, Pos), Stop> {
+    fn range(&mut self) -> Result<Range, Stop> {
         let byte_pos = self.long()?;
         let end = self.long()?;
-        Ok((byte_pos, end))
+        Ok(Range { byte_pos, end })
     }
 }
 
 impl Answers {
     // R as it is after the call.
-    fn range(&mut self, byte_pos: Pos, end: Pos) -> Answered {
-        self.record(&range_row(Range { byte_pos, end }))
+    fn range(&mut self, range: Range) -> Answered {
+        self.record(&range_row(range))
     }
+}
+
+// R over an image.
+fn over<'a>(image: &'a [u8], range: Range) -> EepromRange<'a> {
+    let Range { byte_pos, end } = range;
+    EepromRange {
+        image,
+        byte_pos,
+        end,
+    }
+}
+
+// R as it stands over its image.
+fn standing(range: EepromRange) -> Range {
+    let EepromRange { byte_pos, end, .. } = range;
+    Range { byte_pos, end }
 }
 
 pub(crate) fn crc(words: &mut Words, answers: &mut Answers) -> Answered {
@@ -30,80 +47,74 @@ pub(crate) fn crc(words: &mut Words, answers: &mut Answers) -> Answered {
     answers.gives_one(crc::crc(&bytes))
 }
 
-pub(crate) fn new(words: &mut Words, answers: &mut Answers) -> Answered {
-    let start_word = words.short()?;
-    let len_words = words.short()?;
+// A range by the word at which it starts and its length.
+fn made<F: FnOnce(u16, u16) -> Result<Range, Refusal>>(
+    words: &mut Words,
+    answers: &mut Answers,
+    make: F,
+) -> Answered
+    requires { F.IsAlwaysCallable make }
+{
+    let start = words.short()?;
+    let len = words.short()?;
     words.end()?;
-    answers.gives(&range_row(Range::new(start_word, len_words)?))
+    answers.gives(&range_row(make(start, len)?))
 }
 
+// The length in words.
+pub(crate) fn new(words: &mut Words, answers: &mut Answers) -> Answered {
+    made(words, answers, |start, len| Range::new(start, len))
+}
+
+// The length in bytes.
 pub(crate) fn start_at(words: &mut Words, answers: &mut Answers) -> Answered {
-    let word_addr = words.short()?;
-    let len_bytes = words.short()?;
-    words.end()?;
-    answers.gives(&range_row(Range::start_at(word_addr, len_bytes)?))
+    made(words, answers, |start, len| Range::start_at(start, len))
 }
 
 // The range alone: no image is asked for.
 pub(crate) fn skip(words: &mut Words, answers: &mut Answers) -> Answered {
-    let (byte_pos, end) = words.range()?;
+    let range = words.range()?;
     let count = words.short()?;
     words.end()?;
-    let mut range = EepromRange {
-        image: &[],
-        byte_pos,
-        end,
-    };
+    let mut range = over(&[], range);
     answers.says_done(range.skip_ahead_bytes(count))?;
-    answers.range(range.byte_pos, end)
+    answers.range(standing(range))
 }
 
 pub(crate) fn byte(words: &mut Words, answers: &mut Answers) -> Answered {
     let (image, chunk) = words.image()?;
-    let (byte_pos, end) = words.range()?;
+    let range = words.range()?;
     words.end()?;
-    let mut range = EepromRange {
-        image: &image,
-        byte_pos,
-        end,
-    };
+    let mut range = over(&image, range);
     answers.says_one(range.read_byte(chunk))?;
-    answers.range(range.byte_pos, end)
+    answers.range(standing(range))
 }
 
 pub(crate) fn read(words: &mut Words, answers: &mut Answers) -> Answered {
     let (image, chunk) = words.image()?;
-    let (byte_pos, end) = words.range()?;
+    let range = words.range()?;
     let mut buf = words.bytes()?;
     words.end()?;
-    let mut range = EepromRange {
-        image: &image,
-        byte_pos,
-        end,
-    };
+    let mut range = over(&image, range);
     answers.says_one(range.read(chunk, &mut buf))?;
-    answers.range(range.byte_pos, end)?;
+    answers.range(standing(range))?;
     answers.lent(&buf)
 }
 
 pub(crate) fn exact(words: &mut Words, answers: &mut Answers) -> Answered {
     let (image, chunk) = words.image()?;
-    let (byte_pos, end) = words.range()?;
+    let range = words.range()?;
     let mut buf = words.bytes()?;
     words.end()?;
-    let mut range = EepromRange {
-        image: &image,
-        byte_pos,
-        end,
-    };
+    let mut range = over(&image, range);
     answers.says_done(range.read_exact(chunk, &mut buf))?;
-    answers.range(range.byte_pos, end)?;
+    answers.range(standing(range))?;
     answers.lent(&buf)
 }
 
 pub(crate) fn write(words: &mut Words, answers: &mut Answers) -> Answered {
     let mut image = words.bytes()?;
-    let (byte_pos, end) = words.range()?;
+    let Range { byte_pos, end } = words.range()?;
     let bytes = words.bytes()?;
     words.end()?;
     let mut range = EepromRangeMut {
@@ -112,8 +123,8 @@ pub(crate) fn write(words: &mut Words, answers: &mut Answers) -> Answered {
         end,
     };
     let written = range.write(&bytes);
-    let after = range.byte_pos;
+    let byte_pos = range.byte_pos;
     answers.says_one(written)?;
-    answers.range(after, end)?;
+    answers.range(Range { byte_pos, end })?;
     answers.lent(&image)
 }

@@ -1,6 +1,8 @@
 // The requests for strings, the device's name and its description.
 use crate::answers::{Answered, Answers};
 use crate::words::Words;
+use eeprom::Chunk;
+use refusal::Refusal;
 
 pub(crate) fn string(words: &mut Words, answers: &mut Answers) -> Answered {
     let (image, chunk) = words.image()?;
@@ -11,18 +13,33 @@ pub(crate) fn string(words: &mut Words, answers: &mut Answers) -> Answered {
     answers.lent(&room)
 }
 
-pub(crate) fn name(words: &mut Words, answers: &mut Answers) -> Answered {
+// A text that the image alone names, into the room that is lent.
+fn named<F: FnOnce(&[u8], Chunk, &mut [u8]) -> Result<Option<u16>, Refusal>>(
+    words: &mut Words,
+    answers: &mut Answers,
+    find: F,
+) -> Answered
+    requires { F.IsAlwaysCallable find }
+{
     let (image, chunk) = words.image()?;
     let mut room = words.bytes()?;
     words.end()?;
-    answers.says_if_any(strings::device_name(&image, chunk, &mut room))?;
+    answers.says_if_any(find(&image, chunk, &mut room))?;
     answers.lent(&room)
 }
 
+pub(crate) fn name(words: &mut Words, answers: &mut Answers) -> Answered {
+    named(
+        words,
+        answers,
+        |image, chunk, room| strings::device_name(image, chunk, room),
+    )
+}
+
 pub(crate) fn description(words: &mut Words, answers: &mut Answers) -> Answered {
-    let (image, chunk) = words.image()?;
-    let mut room = words.bytes()?;
-    words.end()?;
-    answers.says_if_any(strings::device_description(&image, chunk, &mut room))?;
-    answers.lent(&room)
+    named(
+        words,
+        answers,
+        |image, chunk, room| strings::device_description(image, chunk, room),
+    )
 }
