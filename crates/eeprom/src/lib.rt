@@ -4,7 +4,7 @@
 
 ghost use Rattle.std.specs.Prelude.{MatchResult, true, false, ◌≡◌, [], ◌∷◌, ◌+◌, ◌-◌, ◌*◌, ◌%◌, ◌≤◌, ◌<◌, length, get_or};
 ghost use Rattle.refusal.specs.declared.Refusal.TheVariants as Refusal;
-ghost use Rattle.wire.specs.Bytes.{byte_at, le16, le32, span, filled, overlay};
+ghost use Rattle.wire.specs.Bytes.{byte_at, le16, le32, span, overlay};
 ghost use Rattle.eeprom.specs.Image.{image_most, long_most, far_most, within, in_bounds, fine, width_of, chunk_of};
 ghost use Rattle.eeprom.specs.Range.{standing, new_said, start_said, byte_in, byte_said, skip_said, read_said, read_buf, all_said, exact_said, exact_range, exact_buf, words_written, words_laid, write_in, write_said, write_range, write_image};
 ghost use Rattle.eeprom.specs.Answers.{said_range, said_byte, said_reading, said_exact, said_writing};
@@ -78,13 +78,13 @@ impl Chunk {
     }
 }
 
-// Copies n bytes of the image, from pos on, to the front of buf.
-#[tactic(auto, using(wire::proofs::Laws::filled_more, wire::proofs::Laws::filled_none))]
-fn copy_out(image: &[u8], pos: usize, n: usize, buf: &mut [u8])
-    requires { (n ≤ length buf.old) × (pos + n ≤ far_most) }
-    ensures { buf.new ≡ filled image.now pos n buf.old }
+// Fills buf with the image's bytes from pos on.
+#[tactic(auto, using(wire::proofs::Laws::filled_none))]
+fn copy_out(image: &[u8], pos: usize, buf: &mut [u8])
+    requires { pos + length buf.old ≤ far_most }
+    ensures { buf.new ≡ span image.now pos (length buf.old) }
 {
-    for i in 0..n {
+    for i in 0..buf.len() {
         buf[i] = byte_at(image, pos + i);
     }
 }
@@ -95,7 +95,11 @@ pub fn read_chunk(image: &[u8], start_word: u32, chunk: Chunk) -> [u8; 8]
     ensures { result ≡ chunk_of image.now start_word (width_of chunk) }
 {
     let mut bytes = [0u8; 8];
-    copy_out(image, 2 * (start_word as usize), chunk.width(), &mut bytes);
+    copy_out(
+        image,
+        2 * (start_word as usize),
+        &mut bytes[..chunk.width()],
+    );
     bytes
 }
 
@@ -192,7 +196,7 @@ impl Range {
     {
         self.checked(image)?;
         let n = buf.len().min(self.left());
-        read_chunks(image, chunk, self.byte_pos, n, buf);
+        read_chunks(image, chunk, self.byte_pos, &mut buf[..n]);
         Ok((n as Pos, self.moved_to(self.byte_pos + (n as Pos))))
     }
 
@@ -337,17 +341,17 @@ fn lay_chunk(image: &[u8], chunk: Chunk, pos: u32, m: usize, buf: &mut [u8], at:
     lay(buf, at, &bytes[odd..odd + m]);
 }
 
-// Copies n bytes of the image, from pos on, to the front of buf, a chunk at a time. A chunk starts at a word.
-fn read_chunks(image: &[u8], chunk: Chunk, pos: u32, n: usize, buf: &mut [u8])
-    requires { (n ≤ length buf.old) × (pos + n ≤ long_most) }
-    ensures { buf.new ≡ filled image.now pos n buf.old }
+// Fills buf with the image's bytes from pos on, a chunk at a time. A chunk starts at a word.
+fn read_chunks(image: &[u8], chunk: Chunk, pos: u32, buf: &mut [u8])
+    requires { pos + length buf.old ≤ long_most }
+    ensures { buf.new ≡ span image.now pos (length buf.old) }
 {
     let wide = chunk.width();
     let mut done = 0;
     // A `while` and no `for`: a first chunk that is met at its word's second byte has one byte less.
-    while done < n {
+    while done < buf.len() {
         let at = pos + (done as u32);
-        let m = (wide - (at % 2) as usize).min(n - done);
+        let m = (wide - (at % 2) as usize).min(buf.len() - done);
         lay_chunk(image, chunk, at, m, buf, done);
         done += m;
     }
