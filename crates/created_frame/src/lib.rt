@@ -18,7 +18,7 @@ const COMMAND_MOST: u8 = 14;
 const DATA_MOST: usize = 65535;
 
 // The state of one area: bytes used, PDUs pushed, and where the last PDU starts (of no meaning at count 0).
-#[derive(Clone, Copy)]
+#[derive(Clone, Copy, Default)]
 pub struct Builder {
     pub used: usize,
     pub count: usize,
@@ -47,7 +47,7 @@ pub struct Push<T = PduResponseHandle> {
 pub type RestPush = Push<Option<(usize, PduResponseHandle)>>;
 
 // Zeroes the area, and gives the state of an empty one. One of more than 2,047 bytes is refused with 14, and stays as it was.
-#[tactic(auto, unfolding(crate::specs::Frame::opened, crate::specs::Frame::after_open))]
+#[tactic(auto, using(crate::proofs::Blank::builder_blank), unfolding(crate::specs::Frame::opened, crate::specs::Frame::after_open))]
 pub fn open(area: &mut [u8]) -> Result<Builder, Refusal>
     ensures answer { said_opened result ≡ opened (length area.old) }
     ensures whole { area.new ≡ after_open area.old }
@@ -56,11 +56,7 @@ pub fn open(area: &mut [u8]) -> Result<Builder, Refusal>
         return Err(Refusal::BadArgument);
     }
     area.fill(0);
-    Ok(Builder {
-        used: 0,
-        count: 0,
-        last: 0,
-    })
+    Ok(Builder::default())
 }
 
 // Pushes a PDU of these bytes; its payload is as long as the larger of their count and `over`.

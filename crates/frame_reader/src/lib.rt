@@ -16,19 +16,6 @@ use pdu::{
 use refusal::Refusal;
 use wire::{byte_at, long_at, word_at};
 
-// What an unused place of the list holds.
-const NO_PDU: PduFields = PduFields {
-    command: 0,
-    index: 0,
-    address: 0,
-    len: 0,
-    circulated: false,
-    more_follows: false,
-    irq: 0,
-    place: 0,
-    counter: 0,
-};
-
 // The PDUs of a frame, in order; a place past the count holds zeros.
 // The count stands beside an array because the memory is fixed, and because the promise says what every place holds.
 #[derive(Clone, Copy)]
@@ -119,7 +106,7 @@ fn listed(s: &[u8], places: &[u16]) -> FrameRead
     requires { length places.now ≤ pdus_most }
     ensures { Ok result ≡ listing s.now (good places.now) }
 {
-    let mut pdus = [NO_PDU; PDUS_MOST];
+    let mut pdus = [PduFields::default(); PDUS_MOST];
     for (k, place) in places.iter().enumerate() {
         pdus[k] = pdu_at(s, usize::from(*place));
     }

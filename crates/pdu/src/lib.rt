@@ -47,7 +47,7 @@ pub const AREA_MOST: usize = 2047;
 pub const PDUS_MOST: usize = 170;
 
 // A PDU's fields as they are read. Its payload lies at `place`, counted from the frame's first byte, for `len` bytes.
-#[derive(Clone, Copy)]
+#[derive(Clone, Copy, Default)]
 pub struct PduFields {
     pub command: u8,
     pub index: u8,

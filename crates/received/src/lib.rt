@@ -20,19 +20,12 @@ use wire::{byte_at, word_at};
 const HANDLE_NUMBERS: usize = 4;
 
 // What came back of a PDU: its payload lies at `place`, counted from the frame's first byte, for `len` bytes, and its working counter is this.
-#[derive(Clone, Copy)]
+#[derive(Clone, Copy, Default)]
 pub struct ReceivedPdu {
     pub place: usize,
     pub len: u16,
     pub counter: u16,
 }
-
-// What an unused place of the list holds.
-const NO_PDU: ReceivedPdu = ReceivedPdu {
-    place: 0,
-    len: 0,
-    counter: 0,
-};
 
 // The PDUs that came back, in order; a place past the count holds zeros.
 // The count stands beside an array because the memory is fixed, and because the promise says what every place holds.
@@ -60,7 +53,7 @@ fn match_all(handles: &[[u64; HANDLE_NUMBERS]], s: &[u8], end: usize) -> Result<
     requires { (frame_header_bytes ≤ end) × (end ≤ area_most + frame_header_bytes) }
     ensures { result ≡ told (matched_at (map handle_of handles.now) s.now frame_header_bytes end 0) }
 {
-    let mut pdus = [NO_PDU; PDUS_MOST];
+    let mut pdus = [ReceivedPdu::default(); PDUS_MOST];
     let mut at = FRAME_HEADER_BYTES;
     for (k, handle) in handles.iter().enumerate() {
         judge(*handle, s, at, end, k as u16)?;

@@ -23,13 +23,6 @@ const COMMAND_LAST: u8 = 12;
 
 const ADDRESS_END: usize = 4294967296;
 
-// The state of an area without PDUs.
-const EMPTY: Builder = Builder {
-    used: 0,
-    count: 0,
-    last: 0,
-};
-
 // Its answer, the builder's state of each area up to the last, and the index of the next PDU. The answer is the last area's number, or the refusal.
 // States and index stand beside it and not in its Ok, since the contract `Promised` and the theorem Demand3 speak of both where the call is refused.
 #[derive(Clone, Copy)]
@@ -98,11 +91,11 @@ fn room_for(count: usize, size: usize, used: usize) -> usize
 }
 
 // The states of no areas.
-#[tactic(auto, unfolding(crate::specs::Row::padded))]
+#[tactic(auto, using(created_frame::proofs::Blank::builder_blank), unfolding(crate::specs::Row::padded))]
 fn no_states() -> [Builder; AREAS_MOST]
     ensures { result ≡ padded [] }
 {
-    [EMPTY; AREAS_MOST]
+    [Builder::default(); AREAS_MOST]
 }
 
 fn refused(why: Refusal, index: u8) -> Spreading

@@ -5,12 +5,13 @@ use lib.ListN.{length, take}
 use Rattle.std.proofs.lemmas.Grind.{common_steps}
 use Rattle.frame_reader.specs.Answers.{padded, unused}
 use Rattle.frame_reader.specs.Walk.{listing}
+use Rattle.frame_reader.proofs.Blank.{pdu_blank}
 use Rattle.frame_reader.proofs.Laws.{padded-more}
 use Rattle.frame_reader.proofs.listed.Goals as goal
 
 pub loop-k-init : goal.loop-k-init
 unfolding padded unused
-loop-k-init c = refl
+loop-k-init c = rw (pdu_blank _ c.default-pdus.ensures) refl
 
 pub loop-k-preserved : goal.loop-k-preserved
 loop-k-preserved c =

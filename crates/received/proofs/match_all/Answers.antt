@@ -2,12 +2,13 @@
 use Rattle.std.proofs.Common.{◌≡◌, ◌+◌, ◌∙◌, sym, ap, refl, ℕ, length, arith}
 use Rattle.std.proofs.lemmas.Result.{err_from_is_err_and}
 use Rattle.received.specs.Answers.{padded, unused}
+use Rattle.received.proofs.Blank.{pdu_blank}
 use Rattle.received.proofs.Laws.{handle_here, handles_over, right-fits, next-is, going_start, going_next, going_wrong, going_missing, going_done}
 use Rattle.received.proofs.match_all.Goals as goal
 
 pub loop-k-init : goal.loop-k-init
 unfolding padded unused
-loop-k-init c = (omega arith, omega arith, going_start _ _ _ _ refl)
+loop-k-init c = (omega arith, omega arith, going_start _ _ _ _ (rw (pdu_blank _ c.default-pdus.ensures) refl))
 
 pub returns-in_err-judge : goal.returns-in_err-judge
 returns-in_err-judge c =
