@@ -13,11 +13,13 @@ use refusal::Refusal;
 // A PDU's bytes over its payload: its header, and the working counter behind the payload.
 pub const PDU_OVERHEAD_BYTES: usize = pdu::PDU_OVERHEAD_BYTES;
 
+// A command is a number and no enum: the calls take any, and refuse one past the last with 14.
 const COMMAND_MOST: u8 = 14;
 
 const DATA_MOST: usize = 65535;
 
 // The state of one area: bytes used, PDUs pushed, and where the last PDU starts (of no meaning at count 0).
+// `last` is a number and no Option: the C interface and `sound` speak of a number, at count 0 too.
 #[derive(Clone, Copy, Default)]
 pub struct Builder {
     pub used: usize,

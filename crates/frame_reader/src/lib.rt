@@ -37,8 +37,7 @@ pub fn read_frame(s: &[u8]) -> Result<FrameRead, Refusal>
 
 // How many PDUs the frame has; each one's start goes into `out`.
 #[tactic(auto, unfolding(pdu::specs::Read::frame_of, crate::specs::Walk::walked_of, crate::specs::Walk::placed, crate::specs::Walk::stored))]
-fn find_pdus(s: &[u8], out: &mut [u16]) -> Option<usize>
-    requires { length out.old ≡ pdus_most }
+fn find_pdus(s: &[u8], out: &mut [u16; PDUS_MOST]) -> Option<usize>
     ensures { (result ≡ walked_of 0 (frame_of s.now)) × (out.new ≡ placed 0 (frame_of s.now) out.old) }
 {
     let end = pdus_end(s)?;
@@ -50,8 +49,8 @@ fn find_pdus(s: &[u8], out: &mut [u16]) -> Option<usize>
 
 // The PDUs from `at` to `end`, the k-th first: each one's start goes into `out`, unless there is a fault behind it.
 #[cycle(body_header)]
-fn header(s: &[u8], at: usize, end: usize, k: usize, out: &mut [u16]) -> Option<usize>
-    requires { (at ≤ end) × (end ≤ area_most + frame_header_bytes) × (pdu_overhead * k + frame_header_bytes ≤ at) × (length out.old ≡ pdus_most) }
+fn header(s: &[u8], at: usize, end: usize, k: usize, out: &mut [u16; PDUS_MOST]) -> Option<usize>
+    requires { (at ≤ end) × (end ≤ area_most + frame_header_bytes) × (pdu_overhead * k + frame_header_bytes ≤ at) }
     ensures { (f : ℕ) → end - at ≤ f → (result ≡ walked_of k (places_at f s.now at end)) × (out.new ≡ placed k (places_at f s.now at end) out.old) }
 {
     if end - at < PDU_OVERHEAD_BYTES {
@@ -63,8 +62,15 @@ fn header(s: &[u8], at: usize, end: usize, k: usize, out: &mut [u16]) -> Option<
 
 // .. where the PDU at `from` has these flags.
 #[cycle(body_header)]
-fn body(s: &[u8], from: usize, end: usize, k: usize, flags: u16, out: &mut [u16]) -> Option<usize>
-    requires { (from + pdu_overhead ≤ end) × (end ≤ area_most + frame_header_bytes) × (pdu_overhead * k + frame_header_bytes ≤ from) × (length out.old ≡ pdus_most) }
+fn body(
+    s: &[u8],
+    from: usize,
+    end: usize,
+    k: usize,
+    flags: u16,
+    out: &mut [u16; PDUS_MOST],
+) -> Option<usize>
+    requires { (from + pdu_overhead ≤ end) × (end ≤ area_most + frame_header_bytes) × (pdu_overhead * k + frame_header_bytes ≤ from) }
     ensures { (f : ℕ) → end - (from + header_bytes) ≤ f → (result ≡ walked_of k (body_at (λ next. places_at f s.now next end) from end flags)) × (out.new ≡ placed k (body_at (λ next. places_at f s.now next end) from end flags) out.old) }
 {
     let next = from + (PDU_OVERHEAD_BYTES + usize::from(flags % LENGTH_PAST));

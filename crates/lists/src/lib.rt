@@ -251,6 +251,7 @@ fn recovered(mode: u8, direction: u8) -> u8
 }
 
 // A value of an enum whose listed ones are 0 to the last; one not listed is the default, 0.
+// Not shared with sii's `port_status`, which promises `listed` too: that one takes a u16 and gives a u8, and this one goes from u8 to u8.
 #[tactic(auto, unfolding(sii::specs::General::listed))]
 fn or_default(n: u8, last: u8) -> u8
     ensures { result ≡ listed last n }

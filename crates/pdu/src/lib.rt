@@ -49,6 +49,7 @@ pub const PDUS_MOST: usize = 170;
 // A PDU's fields as they are read. Its payload lies at `place`, counted from the frame's first byte, for `len` bytes.
 #[derive(Clone, Copy, Default)]
 pub struct PduFields {
+    // A number and no enum: the reader gives any that a frame holds.
     pub command: u8,
     pub index: u8,
     pub address: u32,

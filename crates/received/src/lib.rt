@@ -36,7 +36,8 @@ pub struct Received {
 }
 
 // The payload and the working counter of each PDU of a frame that came back. The handles are those that pushing gave, in order, four numbers each.
-// Numbers that are no row of handles are 14; else 19, 20, 21 or 22 is the first fault in the frame's order.
+// They are a row of numbers and no structs, since a rule speaks of numbers that are no row of handles: those are 14.
+// Else 19, 20, 21 or 22 is the first fault in the frame's order.
 pub fn receive(handles: &[u64], frame: &[u8]) -> Result<Received, Refusal>
     ensures { result ≡ told (received_of handles.now frame.now) }
 {
@@ -99,7 +100,7 @@ fn judge(
     Ok(())
 }
 
-// What came back of the PDU whose header starts at `at`.
+// What came back of the PDU whose header starts at `at`. Not shared with the reader's `pdu_at`: that reads all nine fields of a PDU, and three are wanted here.
 #[tactic(auto, unfolding(pdu::specs::Read::seen_at))]
 fn came_back(s: &[u8], at: usize) -> ReceivedPdu
     requires { at < word_past }

@@ -16,7 +16,7 @@ const AREAS_MOST: usize = 32;
 
 const IMAGE_MOST: usize = 65535;
 
-// LRD, LWR, LRW.
+// LRD, LWR, LRW: numbers and no enum, since the call takes any and refuses the others with 14.
 const COMMAND_LEAST: u8 = 10;
 
 const COMMAND_LAST: u8 = 12;
@@ -36,6 +36,7 @@ pub struct Spreading {
 // The image goes over the areas of the row, each of `size` bytes, as logical PDUs of this command from this address on.
 // The first area has the state `first`; the others are opened before they are used. What is out of bounds is refused with 14,
 // addresses that pass the last with 1, and an image that the areas have no room for with 13.
+// Its parameters stand side by side and in no struct: the C interface and the contract `Promised` take them one by one.
 #[tactic(auto, using(crate::proofs::Laws::law, crate::proofs::Laws::fillable), unfolding(crate::specs::Row::spread_of))]
 pub fn spread(
     areas: &mut [u8],
@@ -132,7 +133,7 @@ fn begun(area: &mut [u8], k: usize, first: Builder) -> Builder
     }
 }
 
-// The image goes into the areas, which have room for it.
+// The image goes into the areas, which have room for it. The parameters are those of `spread`, one by one as there, and the areas' number.
 fn carry(
     areas: &mut [u8],
     size: usize,

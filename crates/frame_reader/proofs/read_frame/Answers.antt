@@ -22,14 +22,14 @@ pub slice_bounds-places-end : goal.slice_bounds-places-end
 slice_bounds-places-end c =
     let x = c.find_pdus in
     let some : x.result ≡ Some c.in_ok-count.count = grind arith in
-    omega (arith, (read_found c.args.s.now x.result x.ensures.0 _ (replicate 170 0) x.new.out refl x.ensures.1 some).0, x.auto)
+    omega (arith, (read_found c.args.s.now x.result x.ensures.0 _ (replicate 170 0) x.new.out refl x.ensures.1 some).0)
 
 pub slice_bounds-listed-end : goal.slice_bounds-listed-end
 slice_bounds-listed-end c =
     let x = c.find_pdus in
     let some : x.result ≡ Some c.in_ok-count.count = grind arith in
     let m = (read_found c.args.s.now x.result x.ensures.0 _ (replicate 170 0) x.new.out refl x.ensures.1 some).0 in
-    sym (length-take-le c.in_ok-count.count x.new.out (omega (arith, m, x.auto)))
+    sym (length-take-le c.in_ok-count.count x.new.out (omega (arith, m)))
 
 pub returns : goal.returns
 returns c =
