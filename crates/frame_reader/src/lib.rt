@@ -18,6 +18,7 @@ use wire::{byte_at, long_at, word_at};
 
 // The PDUs of a frame, in order; a place past the count holds zeros.
 // The count stands beside an array because the memory is fixed, and because the promise says what every place holds.
+// A struct of its own and not one generic with the lists of the SII: `pdus` here, and `items` there, are public names that callers read.
 #[derive(Clone, Copy)]
 pub struct FrameRead {
     pub count: usize,

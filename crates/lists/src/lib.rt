@@ -104,7 +104,8 @@ pub fn rest_behind(rest: Range, bytes: Pos) -> Option<Range>
 }
 
 // Reads the records of the category of this number into the places, from the first on, and answers how many there are: none where there is no category.
-// Refuses what the search for it does; then 5, and 6 if one more record stands there than there are places. An array of a type parameter can't be made, so the places are lent.
+// Refuses what the search for it does; then 5, and 6 if one more record stands there than there are places.
+// The places are lent: the caller says how many there are, and what an unused one holds.
 pub fn read_records<R: Record>(
     image: &[u8],
     chunk: Chunk,
