@@ -9,7 +9,7 @@ pub(crate) const SIZE_END: usize = 126;
 pub(crate) const FIXED_END: usize = 128;
 
 // How many bytes the image should have: the EEPROM's by its size word, and where it lacks that word, those of the fixed area.
-fn whole(image: &[u8]) -> usize {
+fn whole_bytes(image: &[u8]) -> usize {
     if image.len() < SIZE_END {
         return FIXED_END;
     }
@@ -18,7 +18,7 @@ fn whole(image: &[u8]) -> usize {
 
 // The line of an image that has fewer.
 pub(crate) fn print(report: &Report<'_, impl Print>, image: &[u8]) {
-    let most = whole(image);
+    let most = whole_bytes(image);
     let missing = most.saturating_sub(image.len());
     if 0 < missing {
         report.note(format_args!(
@@ -32,6 +32,6 @@ pub(crate) fn print(report: &Report<'_, impl Print>, image: &[u8]) {
 pub(crate) fn category_cut(image: &[u8], number: u16) -> bool {
     match category_inside(image, Chunk::Eight, number) {
         Ok(inside) => !inside,
-        Err(_) => image.len() < whole(image),
+        Err(_) => image.len() < whole_bytes(image),
     }
 }

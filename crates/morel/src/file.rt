@@ -57,7 +57,7 @@ pub(crate) fn read<R: Files + Eprint + AllocGlobal>(
 ) -> Result<Vec<u8>, FileError> {
     let mut file = open(rt, OpenOptions::new().read(true), path).ok_or(FileError::Unreadable)?;
     let mut bytes = Vec::new(rt.alloc());
-    match whole(&mut file, &mut bytes, most) {
+    match is_read_whole(&mut file, &mut bytes, most) {
         Ok(true) => Ok(bytes),
         Ok(false) => Err(FileError::TooLarge),
         Err(_) => Err(FileError::Unreadable),
@@ -65,7 +65,7 @@ pub(crate) fn read<R: Files + Eprint + AllocGlobal>(
 }
 
 // Whether what is left to read has no more bytes than it may: one more is asked for behind them.
-fn whole(file: &mut impl Read, bytes: &mut Vec<u8>, most: usize) -> io::Result<bool> {
+fn is_read_whole(file: &mut impl Read, bytes: &mut Vec<u8>, most: usize) -> io::Result<bool> {
     file.take(most as u64).read_to_end(bytes)?;
     Ok(file.read(&mut [0u8; 1])? == 0)
 }

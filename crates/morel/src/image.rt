@@ -5,6 +5,7 @@ use crate::report::Report;
 use crate::shown::{Flags, Hex, Named, YesOrNo};
 use crate::{cut, records, texts};
 use eeprom::Chunk;
+use setup::Checksums;
 use sii::PhysicalPorts;
 
 // Where what is read of the fixed area ends, in bytes.
@@ -12,7 +13,7 @@ const PDI_END: usize = 8;
 
 const ALIAS_END: usize = 10;
 
-const CHECKSUM_END: usize = 15;
+const CHECKSUM_BYTE_END: usize = 15;
 
 const IDENTITY_END: usize = 32;
 
@@ -69,8 +70,8 @@ fn fixed(report: &mut Report<'_, impl Print>, image: &[u8]) {
 // A checksum that is wrong is nothing that was refused, and yet the image is not as it should be.
 fn checksum(report: &mut Report<'_, impl Print>, image: &[u8]) {
     let answer = setup::checksum(image, Chunk::Eight);
-    if let Some(sums) = report.record("checksum", image.len() < CHECKSUM_END, answer) {
-        if sums.stored == sums.computed {
+    if let Some(sums) = report.record("checksum", image.len() < CHECKSUM_BYTE_END, answer) {
+        if is_right(sums) {
             report.line("checksum", "right");
         } else {
             report.line("checksum", "wrong");
@@ -82,8 +83,13 @@ fn checksum(report: &mut Report<'_, impl Print>, image: &[u8]) {
 }
 
 // Whether the stored checksum is that of the bytes before it.
+fn is_right(sums: Checksums) -> bool {
+    sums.stored == sums.computed
+}
+
+// .. of an image; one whose checksum is refused has no right one.
 pub(crate) fn checksum_right(image: &[u8]) -> bool {
-    setup::checksum(image, Chunk::Eight).is_ok_and(|sums| sums.stored == sums.computed)
+    setup::checksum(image, Chunk::Eight).is_ok_and(is_right)
 }
 
 fn pdi(report: &mut Report<'_, impl Print>, image: &[u8]) {
