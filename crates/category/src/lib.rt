@@ -12,7 +12,7 @@ ghost use Rattle.category.specs.Category.{numbers, empty_most, among, counted, d
 ghost use Rattle.category.specs.Inside.{header_end, last_header, end_inside, inside_said};
 ghost use Rattle.category.specs.Answers.{said_found, said_inside, said_step};
 
-use eeprom::{Chunk, Range, image_within, word_of};
+use eeprom::{Chunk, Range, word_of};
 use refusal::Refusal;
 
 // The categories that may be sought, by their numbers in the SII.
@@ -91,7 +91,8 @@ pub fn category_inside(image: &[u8], chunk: Chunk, number: u16) -> Result<bool, 
 fn checked(image: &[u8], number: u16) -> Result<(), Refusal>
     ensures { MatchResult result (λ _. (within image.now ≡ true) × (among number numbers ≡ true)) (λ x. (x ≡ Refusal.BadArgument) × (category_said image.now number ≡ refuses 14 [])) }
 {
-    if image_within(image) && is_sought(number) {
+    eeprom::checked(image)?;
+    if is_sought(number) {
         Ok(())
     } else {
         Err(Refusal::BadArgument)
@@ -207,21 +208,15 @@ fn decide(category_type: u16, len_words: u16, number: u16, body: u32, e: u32) ->
         return Step::Done(Ok(None)); // even if it is of the number sought
     }
     if category_type == number {
-        return Step::Done(as_found(Range::new(body as u16, len_words)));
+        return Step::Done(Range::new(body as u16, len_words).map(Some));
     }
     if category_type == END {
         return Step::Done(Ok(None));
     }
-    let next = body + (len_words as u32);
+    let next = body + u32::from(len_words);
     if WORD_MOST < next {
         Step::Done(Err(Refusal::Address))
     } else {
         Step::Next(next, e)
     }
-}
-
-fn as_found(range: Result<Range, Refusal>) -> Result<Option<Range>, Refusal>
-    ensures { said_found result ≡ said_range range }
-{
-    Ok(Some(range?))
 }

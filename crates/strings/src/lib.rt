@@ -13,7 +13,7 @@ ghost use Rattle.strings.specs.Names.{name_said, description_said};
 ghost use Rattle.strings.specs.Answers.{said_place, said_string, Small};
 
 use category::{STRINGS, category};
-use eeprom::{Chunk, Pos, Range, byte_of, image_within};
+use eeprom::{Chunk, Pos, Range, byte_of};
 use refusal::Refusal;
 use sii::{find_general, general};
 
@@ -78,7 +78,8 @@ pub fn device_description(
 fn checked(image: &[u8], room: &[u8]) -> Result<(), Refusal>
     ensures { MatchResult result (λ _. (fits image.now (length room.now) ≡ true) × (length room.now ≤ room_most)) (λ x. (x ≡ Refusal.BadArgument) × (fits image.now (length room.now) ≡ false)) }
 {
-    if image_within(image) && room.len() <= ROOM_MOST {
+    eeprom::checked(image)?;
+    if room.len() <= ROOM_MOST {
         Ok(())
     } else {
         Err(Refusal::BadArgument)
@@ -176,7 +177,7 @@ fn fit(room: u16, n: u16, g: Range) -> Result<Option<(Pos, u16)>, Refusal>
     if room < n {
         return Err(Refusal::StringTooLong { room, stored: n });
     }
-    if (n as Pos) <= g.end.saturating_sub(g.byte_pos) {
+    if Pos::from(n) <= g.end.saturating_sub(g.byte_pos) {
         Ok(Some((g.byte_pos, n)))
     } else {
         Err(Refusal::Overrun)
