@@ -1,4 +1,4 @@
-// The frame builder, the frame header and the frame reader. A builder's state goes in as numbers and comes back in the row.
+// The frame builder and the frame header. A builder's state goes in as numbers and comes back in the row.
 ghost use Rattle.std.specs.Prelude.{◌≡◌, [], ◌∷◌, ◌++◌, length};
 ghost use Rattle.refusal.specs.Said.{said, said_if_any};
 ghost use Rattle.pdu.specs.Answers.{said_header, header_said, header_left};
@@ -6,13 +6,10 @@ ghost use Rattle.created_frame.specs.Frame.{opened, after_open, pushed, pushed_b
 ghost use Rattle.created_frame.specs.Answers.{handle_values, state_values, said_opened, said_pushed, said_rest};
 ghost use Rattle.export.specs.Told.{code_of, row_over, state_of, state_over, bytes_over, header_told};
 
-use crate::row::{ABSENT, GIVES, Told, tell};
+use crate::row::{ABSENT, GIVES, STATE_NUMBERS, Told, tell};
 use created_frame::{Builder, state_row};
 use pdu::FRAME_HEADER_BYTES;
 use refusal::Refusal;
-
-// How many numbers a state takes of the row.
-const STATE_NUMBERS: usize = 3;
 
 // Zeroes the area; the row takes the state of an empty one: used, count, last.
 pub fn morel_open(area: &mut [u8], out: &mut [u64]) -> u8
@@ -85,8 +82,7 @@ fn tell_push<T: Told>(
     ensures code { result ≡ code_of (said_if_any T.values answer) }
     ensures lent { out.new ≡ state_over out.old b next (said_if_any T.values answer) }
 {
-    let kept = kept_row(b, next);
-    wire::lay(out, 0, &kept);
+    wire::lay(out, 0, &kept_row(b, next));
     match answer {
         Ok(Some(x)) => {
             x.put(out, STATE_NUMBERS + 1);
@@ -101,8 +97,8 @@ fn tell_push<T: Told>(
 fn kept_row(b: Builder, next: u8) -> [u64; 4]
     ensures { result ≡ state_values b ++ next ∷ [] }
 {
-    let s = state_row(b);
-    [s[0], s[1], s[2], u64::from(next)]
+    let [used, count, last] = state_row(b);
+    [used, count, last, u64::from(next)]
 }
 
 // What is given as what may be absent.

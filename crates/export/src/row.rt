@@ -8,9 +8,10 @@ ghost use Rattle.eeprom.specs.Answers.{range_values};
 ghost use Rattle.category.specs.Answers.{bit_values};
 ghost use Rattle.sii.specs.Fixed.{identity_values, mailbox_values};
 ghost use Rattle.sii.specs.General.{general_values};
+ghost use Rattle.pdu.specs.Pdu.{pdus_most};
 ghost use Rattle.pdu.specs.Answers.{pdu_values};
 ghost use Rattle.created_frame.specs.Answers.{state_values, handle_values, rest_values};
-ghost use Rattle.export.specs.Told.{code_of, row_over};
+ghost use Rattle.export.specs.Told.{code_of, row_over, before_most, each_most};
 
 use created_frame::{Builder, PduResponseHandle, handle_row, state_row};
 use eeprom::Range;
@@ -18,11 +19,14 @@ use pdu::{PduFields, pdu_row};
 use refusal::Refusal;
 use sii::{DefaultMailbox, SiiGeneral, SubDeviceIdentity, general_row, identity_row, mailbox_row};
 
-// The code of an answer that gives values.
+// The code of an answer that gives values. Codes are numbers, as C has no Result: a refusal's code is its number.
 pub(crate) const GIVES: u8 = 0;
 
-// The code of an answer that is absent, which leaves its row alone.
+// The code of an answer that is absent, which leaves its row alone: a number for C too, above those of the refusals.
 pub(crate) const ABSENT: u8 = 255;
+
+// How many numbers a builder's state takes of the row.
+pub(crate) const STATE_NUMBERS: usize = 3;
 
 // What an answer gives, as numbers.
 pub(crate) trait Told: Copy {
@@ -61,7 +65,8 @@ impl Told for bool {
     ghost values = { bit_values };
 
     fn put(self, row: &mut [u64], at: usize) {
-        wire::lay(row, at, &[wire::flag(self)]);
+        let one_if_so = u64::from(self);
+        wire::lay(row, at, &[one_if_so]);
     }
 }
 
@@ -126,15 +131,15 @@ impl Told for (usize, PduResponseHandle) {
 
     fn put(self, row: &mut [u64], at: usize) {
         let (taken, pdu) = self;
-        let h = handle_row(pdu);
-        wire::lay(row, at, &[taken as u64, h[0], h[1], h[2], h[3]]);
+        let [start, size, index, command] = handle_row(pdu);
+        wire::lay(row, at, &[taken as u64, start, size, index, command]);
     }
 }
 
 // Some of one kind, of N numbers each, over the row from at on, one behind the other.
 pub(crate) fn put_all<T: Told, const N: usize>(row: &mut [u64], at: usize, xs: &[T])
     requires wide { (x : T) → length (T.values x) ≡ N }
-    requires small { (at ≤ 2) × (N ≤ 9) × (length xs.now ≤ 170) }
+    requires small { (at ≤ before_most) × (N ≤ each_most) × (length xs.now ≤ pdus_most) }
     ensures { row.new ≡ laid row.old at (flat_map T.values xs.now) }
 {
     let mut place = at;

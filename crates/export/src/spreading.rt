@@ -7,13 +7,10 @@ ghost use Rattle.spread.specs.Answers.{said_last, first_of};
 ghost use Rattle.spread.specs.Row.{areas_most, spread_of};
 ghost use Rattle.export.specs.Told.{code_of, state_of, run_over};
 
-use crate::row::{code_of, put_all};
+use crate::row::{STATE_NUMBERS, code_of, put_all};
 use created_frame::Builder;
 use refusal::Refusal;
 use spread::spread;
-
-// How many numbers a state takes of the row.
-const STATE_NUMBERS: usize = 3;
 
 // The image goes over the areas of the row, each of `size` bytes, as logical PDUs of this command from this address on.
 // The first area has the state (used, count, last); the answer's number is that of the last area that has a PDU of the image, 0 for no image.
