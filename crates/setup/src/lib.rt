@@ -129,7 +129,7 @@ fn bytes_summed(image: &[u8], chunk: Chunk) -> [u8; CHECKSUM]
     ensures { result ≡ summed image.now }
 {
     let mut bytes = [0; CHECKSUM];
-    // No `array::from_fn`: tried, and not proved in the time there was. The law of such arrays is `ports::proofs::Made`, and this crate does not rest on `ports`.
+    // No `array::from_fn`: tried, and not proved. The law of such arrays (`Made`) is in `ports`, on which this crate does not rest.
     for i in 0..CHECKSUM {
         bytes[i] = byte_of(image, chunk, i as u32);
     }
