@@ -29,14 +29,6 @@ last_within image number w e =
     rw e (reaches image number (last_header image number) h.before h.header).inside
 
 module _ (image : List ℕ) (number : ℕ) where
-  pub inside-long : within image ≡ false → refuses 14 [] ≡ inside_said image number
-  unfolding inside_said category_said end_inside
-  inside-long w = rw w
-
-  pub inside-unsought : within image ≡ true → among number numbers ≡ false → refuses 14 [] ≡ inside_said image number
-  unfolding inside_said category_said end_inside
-  inside-unsought w n = rw (w, n)
-
   pub inside_ended : within image ≡ true → among number numbers ≡ true →
       (w : ℕ) (s r : Said) → s ≡ searched image number → w ≡ last_header image number → r ≡ end_inside image w s → r ≡ inside_said image number
   unfolding inside_said category_said

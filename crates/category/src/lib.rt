@@ -2,14 +2,17 @@
 // RULES, category, decides; specs/Category.antt has its rules in its order.
 #![tactic(auto)]
 
-ghost use Rattle.std.specs.Prelude.{◌≡◌, ◌+◌, ◌≤◌, ◌<◌};
+ghost use Rattle.std.specs.Prelude.{MatchResult, true, [], ◌≡◌, ◌+◌, ◌≤◌, ◌<◌};
+ghost use Rattle.refusal.specs.Said.{refuses};
+ghost use Rattle.refusal.specs.declared.Refusal.TheVariants as Refusal;
+ghost use Rattle.eeprom.specs.Image.{within};
 ghost use Rattle.eeprom.specs.Answers.{said_range};
 ghost use Rattle.category.specs.Layout.{header_words, word_most};
 ghost use Rattle.category.specs.Category.{numbers, empty_most, among, counted, decided, stepped, searched, category_said};
 ghost use Rattle.category.specs.Inside.{header_end, last_header, end_inside, inside_said};
 ghost use Rattle.category.specs.Answers.{said_found, said_inside, said_step};
 
-use eeprom::{Chunk, Range, RangeAnswer, image_within, word_of};
+use eeprom::{Chunk, Range, word_of};
 use refusal::Refusal;
 
 // The categories that may be sought, by their numbers in the SII.
@@ -46,92 +49,76 @@ const END: u16 = 65535;
 
 const EMPTY_MOST: u32 = 32;
 
-// What a search answers.
-#[derive(Clone, Copy)]
-pub enum Found {
-    // The category's body, from its first byte to its end.
-    At(Range),
-    // The image has none that the search reaches.
-    Absent,
-    // 14: the image is too long, or the number may not be sought.
-    // 1: a length leads past the last word, or the range would end above its limit.
-    No(Refusal),
-}
-
-// Whether all that a search looks at lies in the image.
-#[derive(Clone, Copy)]
-pub enum InsideAnswer {
-    Inside(bool),
-    // 14 and 1, as the search's own.
-    No(Refusal),
-}
-
 // Where a search ends: its last header's word, and what it answers.
 #[derive(Clone, Copy)]
 struct Ending {
     word: u32,
-    found: Found,
+    found: Result<Option<Range>, Refusal>,
 }
 
 // What a header leads to.
 #[derive(Clone, Copy)]
 enum Step {
     // The search ends.
-    Done(Found),
+    Done(Result<Option<Range>, Refusal>),
     // The next header's word, and the count of empty headers so far.
     Next(u32, u32),
 }
 
-// Finds the first category of this number, within the first 31 empty headers. A number that may not be sought is 14.
-pub fn category(image: &[u8], chunk: Chunk, number: u16) -> Found
+// Finds the first category of this number, within the first 31 empty headers: its body, from its first byte to its end.
+// Refuses 14 where the image is too long or the number may not be sought, and 1 where a length leads past the last word or the range would end above its limit.
+#[tactic(auto, unfolding(crate::specs::Category::category_said))]
+pub fn category(image: &[u8], chunk: Chunk, number: u16) -> Result<Option<Range>, Refusal>
     ensures { said_found result ≡ category_said image.now number }
 {
-    if image_within(image) {
-        if sought(number) {
-            let ending = search(image, chunk, number);
-            ending.found
-        } else {
-            Found::No(Refusal::BadArgument)
-        }
-    } else {
-        Found::No(Refusal::BadArgument)
-    }
+    checked(image, number)?;
+    search(image, chunk, number).found
 }
 
 // Whether the headers that the search for this number looks at, the mark, and the category that it finds lie in the image.
 // Past the image a byte reads as 0xFF, and a mark read there is none. Where `category` refuses, its refusal.
-pub fn category_inside(image: &[u8], chunk: Chunk, number: u16) -> InsideAnswer
+#[tactic(auto, unfolding(crate::specs::Inside::inside_said, crate::specs::Inside::end_inside))]
+pub fn category_inside(image: &[u8], chunk: Chunk, number: u16) -> Result<bool, Refusal>
     ensures { said_inside result ≡ inside_said image.now number }
 {
-    if image_within(image) {
-        if sought(number) {
-            let ending = search(image, chunk, number);
-            let word = ending.word;
-            let found = ending.found;
-            end_inside(image, chunk, word, found)
-        } else {
-            InsideAnswer::No(Refusal::BadArgument)
-        }
+    checked(image, number)?;
+    let ending = search(image, chunk, number);
+    end_inside(image, chunk, ending.word, ending.found)
+}
+
+// The image is not too long, and the number may be sought: else 14.
+#[tactic(auto, unfolding(crate::specs::Category::category_said))]
+fn checked(image: &[u8], number: u16) -> Result<(), Refusal>
+    ensures { MatchResult result (λ _. (within image.now ≡ true) × (among number numbers ≡ true)) (λ x. (x ≡ Refusal.BadArgument) × (category_said image.now number ≡ refuses 14 [])) }
+{
+    eeprom::checked(image)?;
+    if is_sought(number) {
+        Ok(())
     } else {
-        InsideAnswer::No(Refusal::BadArgument)
+        Err(Refusal::BadArgument)
     }
 }
 
 // .. where it ended at the header at word with this.
-fn end_inside(image: &[u8], chunk: Chunk, word: u32, found: Found) -> InsideAnswer
+#[tactic(auto, unfolding(crate::specs::Inside::end_inside))]
+fn end_inside(
+    image: &[u8],
+    chunk: Chunk,
+    word: u32,
+    found: Result<Option<Range>, Refusal>,
+) -> Result<bool, Refusal>
     requires { word ≤ word_most }
     ensures { said_inside result ≡ end_inside image.now word (said_found found) }
 {
-    match found {
-        Found::At(g) => InsideAnswer::Inside((g.end as usize) <= image.len()),
-        Found::Absent => InsideAnswer::Inside(
-            (header_end(image, chunk, word) as usize) <= image.len(),
-        ),
-        Found::No(x) => InsideAnswer::No(x),
-    }
+    let end = match found? {
+        Some(g) => g.end,
+        None => header_end(image, chunk, word),
+    };
+    Ok((end as usize) <= image.len())
 }
 
 // The end of what is looked at of the header at word.
+#[tactic(auto, unfolding(crate::specs::Inside::header_end))]
 fn header_end(image: &[u8], chunk: Chunk, word: u32) -> u32
     requires { word ≤ word_most }
     ensures { result ≡ header_end image.now word }
@@ -145,18 +132,18 @@ fn header_end(image: &[u8], chunk: Chunk, word: u32) -> u32
 
 // A number that may be sought.
 #[tactic(auto, unfolding(crate::specs::Category::among))]
-fn sought(number: u16) -> bool
+fn is_sought(number: u16) -> bool
     ensures { result ≡ among number numbers }
 {
     match number {
-        STRINGS => true,
-        GENERAL => true,
-        FMMU => true,
-        SYNC_MANAGER => true,
-        FMMU_EXTENDED => true,
-        TX_PDO => true,
-        RX_PDO => true,
-        DISTRIBUTED_CLOCK => true,
+        STRINGS
+        | GENERAL
+        | FMMU
+        | SYNC_MANAGER
+        | FMMU_EXTENDED
+        | TX_PDO
+        | RX_PDO
+        | DISTRIBUTED_CLOCK => true,
         _ => false,
     }
 }
@@ -168,6 +155,7 @@ fn search(image: &[u8], chunk: Chunk, number: u16) -> Ending
 {
     let mut word = SII_FIRST_CATEGORY_START;
     let mut empties: u32 = 0;
+    // A `loop` and no `for`: each header says where the next one stands.
     loop {
         match header(image, chunk, number, word, empties) {
             Step::Done(f) => {
@@ -182,6 +170,7 @@ fn search(image: &[u8], chunk: Chunk, number: u16) -> Ending
 }
 
 // The header at word, before which there are so many empty ones.
+#[tactic(auto, unfolding(crate::specs::Category::stepped))]
 fn header(image: &[u8], chunk: Chunk, number: u16, word: u32, empties: u32) -> Step
     requires { (word ≤ word_most) × (empties < empty_most) }
     ensures { said_step result ≡ stepped image.now number word empties }
@@ -198,6 +187,7 @@ fn header(image: &[u8], chunk: Chunk, number: u16, word: u32, empties: u32) -> S
 }
 
 // The count of empty headers with one of this length.
+#[tactic(auto, unfolding(crate::specs::Category::counted))]
 fn count(len_words: u16, empties: u32) -> u32
     requires { empties < empty_most }
     ensures { result ≡ counted len_words empties }
@@ -206,35 +196,27 @@ fn count(len_words: u16, empties: u32) -> u32
 }
 
 // What a header leads to whose body stands at word body, and with which there are e empty ones.
+#[tactic(auto, unfolding(crate::specs::Category::decided))]
 fn decide(category_type: u16, len_words: u16, number: u16, body: u32, e: u32) -> Step
     requires { body ≤ word_most + header_words }
     ensures { said_step result ≡ decided category_type len_words number body e }
 {
     if WORD_MOST < body {
-        return Step::Done(Found::Absent);
+        return Step::Done(Ok(None));
     }
     if EMPTY_MOST <= e {
-        return Step::Done(Found::Absent); // even if it is of the number sought
+        return Step::Done(Ok(None)); // even if it is of the number sought
     }
     if category_type == number {
-        return Step::Done(as_found(Range::new(body as u16, len_words)));
+        return Step::Done(Range::new(body as u16, len_words).map(Some));
     }
     if category_type == END {
-        return Step::Done(Found::Absent);
+        return Step::Done(Ok(None));
     }
-    let next = body + (len_words as u32);
+    let next = body + u32::from(len_words);
     if WORD_MOST < next {
-        Step::Done(Found::No(Refusal::Address))
+        Step::Done(Err(Refusal::Address))
     } else {
         Step::Next(next, e)
-    }
-}
-
-fn as_found(range: RangeAnswer) -> Found
-    ensures { said_found result ≡ said_range range }
-{
-    match range {
-        RangeAnswer::Made(g) => Found::At(g),
-        RangeAnswer::No(x) => Found::No(x),
     }
 }

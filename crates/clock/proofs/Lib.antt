@@ -1,3 +1,4 @@
 pub mod Reading
+pub mod Blank
 pub mod Unique
 pub mod Theorems

@@ -1,19 +1,13 @@
--- A list that comes back is known from its promise, by an inverse: the answer from what is said, the count and every place as they are.
-use mathlib.Core.Path.{◌≡◌, ap}
-use Rattle.refusal.proofs.Unique.{unique}
+-- A list that comes back is known from its promise, as those of `lists` are.
+use mathlib.Core.Path.{◌≡◌, refl}
+use Rattle.std.specs.Prelude.{Result}
+use Rattle.refusal.specs.declared.Refusal.{Refusal}
 use Rattle.lists.specs.Records.{Back}
-use Rattle.lists.specs.declared.ListAnswer.{ListAnswer}
-use Rattle.lists.proofs.Unique.{list_of, list_back}
+use Rattle.lists.proofs.Unique.{back_unique}
+use Rattle.clock.specs.Clocks.{clock_zero, clock_most}
 use Rattle.clock.specs.Answers.{back_clocks}
 use Rattle.clock.specs.declared.DistributedClock.{DistributedClock}
 use Rattle.clock.specs.declared.DistributedClocks.{DistributedClocks}
 
-unfoldable clocks_from : Back DistributedClock → DistributedClocks
-clocks_from b = record { answer = list_of b.says; count = b.count; items = b.places }
-
-clocks_back : (r : DistributedClocks) → clocks_from (back_clocks r) ≡ r
-unfolding clocks_from
-clocks_back r = ap (λ (a : ListAnswer). record { answer = a; count = r.count; items = r.items }) (list_back r.answer)
-
-pub clocks_unique : (r s : DistributedClocks) (x : Back DistributedClock) → back_clocks r ≡ x → back_clocks s ≡ x → r ≡ s
-clocks_unique = unique back_clocks clocks_from clocks_back
+pub clocks_unique : (r s : Result DistributedClocks Refusal) (x : Back DistributedClock) → back_clocks r ≡ x → back_clocks s ≡ x → r ≡ s
+clocks_unique = back_unique clock_zero clock_most (λ r. r.count) (λ r. r.items) (λ n l. record { count = n; items = l }) (λ r. refl)

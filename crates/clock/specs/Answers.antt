@@ -1,15 +1,10 @@
--- What comes back, in numbers and values (RULES, refusals), and what stands at a position. Definitions only.
-use Rattle.lists.specs.Records.{Item, one, none, Back}
-use Rattle.lists.specs.Answers.{said_list}
+-- What comes back: what is said, in numbers and values (RULES, refusals), the count and every place. Definitions only.
+use Rattle.std.specs.Prelude.{Result}
+use Rattle.refusal.specs.declared.Refusal.{Refusal}
+use Rattle.lists.specs.Records.{Back, back_of}
+use Rattle.clock.specs.Clocks.{clock_zero, clock_most}
 use Rattle.clock.specs.declared.DistributedClock.{DistributedClock}
 use Rattle.clock.specs.declared.DistributedClocks.{DistributedClocks}
-use Rattle.clock.specs.declared.ClockItem.{ClockItem}
-use Rattle.clock.specs.declared.ClockItem.TheVariants as clock
 
--- the answer, the count and every place
-abbrev pub back_clocks : DistributedClocks → Back DistributedClock
-back_clocks r = record { says = said_list r.answer; count = r.count; places = r.items }
-
-abbrev pub item_clock : ClockItem → Item DistributedClock
-item_clock (clock.One r p) = one r p
-item_clock clock.Stop = none
+abbrev pub back_clocks : Result DistributedClocks Refusal → Back DistributedClock
+back_clocks = back_of clock_zero clock_most (λ r. r.count) (λ r. r.items)

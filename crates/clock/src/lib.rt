@@ -2,16 +2,14 @@
 // Follows ETG2010, category DC, and RULES, lists. specs/Layout.antt says where each field lies.
 #![tactic(auto)]
 
-ghost use Rattle.std.specs.Prelude.{◌≡◌, ◌+◌, ◌≤◌, replicate};
-ghost use Rattle.refusal.specs.Said.{number_of, values_of};
-ghost use Rattle.sii.specs.Layout.{place_most};
-ghost use Rattle.lists.specs.Records.{records, back};
+ghost use Rattle.std.specs.Prelude.{◌≡◌, ◌+◌, ◌^◌, ◌<◌};
+ghost use Rattle.lists.specs.Records.{back};
 ghost use Rattle.clock.specs.Clocks.{clock_of, clock_values, clock_zero, clock_most, clock_at, clocks_of};
-ghost use Rattle.clock.specs.Answers.{item_clock, back_clocks};
+ghost use Rattle.clock.specs.Answers.{back_clocks};
 
-use category::{DISTRIBUTED_CLOCK, Found, category};
-use eeprom::{Chunk, byte_of, long_of, word_of};
-use lists::ListAnswer;
+use category::DISTRIBUTED_CLOCK;
+use eeprom::{Chunk, Pos, Range, byte_of, long_of, word_of};
+use lists::{Record, read_records, rest_behind};
 use refusal::Refusal;
 
 // The most that are listed.
@@ -35,7 +33,7 @@ const MODE_NAME_IDX: u32 = 18;
 const MODE_DESC_IDX: u32 = 19;
 
 // A mode of the distributed clock. Times are in ns.
-#[derive(Clone, Copy)]
+#[derive(Clone, Copy, Default)]
 pub struct DistributedClock {
     pub cycle_time0: u32,
     pub shift_time0: u32,
@@ -49,98 +47,43 @@ pub struct DistributedClock {
     pub description_string_idx: u8,
 }
 
-// At most 8; a place from the count on is all zero.
+// At most 8; a place from the count on is all zero. The count stands beside an array: memory is fixed, and `back` says what every place holds.
 #[derive(Clone, Copy)]
 pub struct DistributedClocks {
-    pub answer: ListAnswer,
     pub count: usize,
-    pub items: [DistributedClock; 8],
-}
-
-// What stands at a position: a record and where the next one starts, or no whole record.
-#[derive(Clone, Copy)]
-enum ClockItem {
-    One(DistributedClock, u32),
-    Stop,
+    pub items: [DistributedClock; CLOCK_MOST],
 }
 
 // The modes of the distributed clock.
-pub fn distributed_clocks(image: &[u8], chunk: Chunk) -> DistributedClocks
+pub fn distributed_clocks(image: &[u8], chunk: Chunk) -> Result<DistributedClocks, Refusal>
     ensures { back_clocks result ≡ back clock_zero clock_most (clocks_of image.now) }
 {
-    match category(image, chunk, DISTRIBUTED_CLOCK) {
-        Found::At(g) => clocks_in(image, chunk, g.byte_pos, g.end),
-        Found::Absent => no_clocks(ListAnswer::Listed),
-        Found::No(x) => no_clocks(ListAnswer::No(x)),
+    let mut items = [DistributedClock::default(); CLOCK_MOST];
+    let count = read_records::<DistributedClock>(image, chunk, DISTRIBUTED_CLOCK, &mut items)?;
+    Ok(DistributedClocks { count, items })
+}
+
+impl Record for DistributedClock {
+    type Value = DistributedClock;
+
+    ghost item_at = { clock_at };
+
+    #[tactic(auto, unfolding(crate::specs::Clocks::clock_at))]
+    fn read(
+        image: &[u8],
+        chunk: Chunk,
+        rest: Range,
+    ) -> Result<Option<(DistributedClock, Range)>, Refusal> {
+        let Some(behind) = rest_behind(rest, CLOCK_BYTES) else {
+            return Ok(None);
+        };
+        Ok(Some((clock_at(image, chunk, rest.byte_pos), behind)))
     }
 }
 
-// An empty list.
-fn no_clocks(answer: ListAnswer) -> DistributedClocks
-    ensures { result ≡ record { answer = answer; count = 0; items = replicate 8 clock_zero } }
-{
-    let blank = DistributedClock {
-        cycle_time0: 0,
-        shift_time0: 0,
-        shift_time1: 0,
-        sync1_cycle_factor: 0,
-        assign_activate: 0,
-        sync0_cycle_factor: 0,
-        name_string_idx: 0,
-        description_string_idx: 0,
-    };
-    DistributedClocks {
-        answer,
-        count: 0,
-        items: [blank; 8],
-    }
-}
-
-// The list of a category from start to end.
-fn clocks_in(image: &[u8], chunk: Chunk, start: u32, end: u32) -> DistributedClocks
-    requires { (start ≤ place_most) × (end ≤ place_most) }
-    ensures { back_clocks result ≡ back clock_zero clock_most (records (clock_at image.now end) clock_most start) }
-{
-    let none = no_clocks(ListAnswer::Listed);
-    let mut items = none.items;
-    let mut count = 0;
-    let mut at = start;
-    loop {
-        match clock_item(image, chunk, at, end) {
-            ClockItem::One(clock, next) => {
-                if count < CLOCK_MOST {
-                    items[count] = clock;
-                    count += 1;
-                    at = next;
-                } else {
-                    return no_clocks(ListAnswer::No(Refusal::Capacity));
-                }
-            }
-            ClockItem::Stop => {
-                return DistributedClocks {
-                    answer: ListAnswer::Listed,
-                    count,
-                    items,
-                };
-            }
-        }
-    }
-}
-
-fn clock_item(image: &[u8], chunk: Chunk, at: u32, end: u32) -> ClockItem
-    requires { at ≤ place_most }
-    ensures { item_clock result ≡ clock_at image.now end at }
-{
-    let next = at + CLOCK_BYTES;
-    if next <= end {
-        ClockItem::One(clock_at(image, chunk, at), next)
-    } else {
-        ClockItem::Stop
-    }
-}
-
-fn clock_at(image: &[u8], chunk: Chunk, at: u32) -> DistributedClock
-    requires { at ≤ place_most }
+#[tactic(auto, unfolding(crate::specs::Clocks::clock_of))]
+fn clock_at(image: &[u8], chunk: Chunk, at: Pos) -> DistributedClock
+    requires { at + MODE_DESC_IDX < 2 ^ 32 }
     ensures { result ≡ clock_of image.now at }
 {
     DistributedClock {
@@ -155,18 +98,18 @@ fn clock_at(image: &[u8], chunk: Chunk, at: u32) -> DistributedClock
     }
 }
 
-// A record as the numbers that the list gives of it, in their order.
+// A record as the numbers that the list gives of it, in their order. A function by its name and no `From`: it is a public call with a row in `pinned`.
 pub fn clock_row(c: DistributedClock) -> [u64; 8]
     ensures { result ≡ clock_values c }
 {
     [
-        c.cycle_time0 as u64,
-        c.shift_time0 as u64,
-        c.shift_time1 as u64,
-        c.sync1_cycle_factor as u64,
-        c.assign_activate as u64,
-        c.sync0_cycle_factor as u64,
-        c.name_string_idx as u64,
-        c.description_string_idx as u64,
+        u64::from(c.cycle_time0),
+        u64::from(c.shift_time0),
+        u64::from(c.shift_time1),
+        u64::from(c.sync1_cycle_factor),
+        u64::from(c.assign_activate),
+        u64::from(c.sync0_cycle_factor),
+        u64::from(c.name_string_idx),
+        u64::from(c.description_string_idx),
     ]
 }

@@ -26,18 +26,17 @@ fn by_table(table: &Table, s: &[u8]) -> u8
     ensures { result ≡ crc_of s.now }
 {
     let mut c = START;
-    let mut i = 0;
-    while i < s.len() {
-        c = shift8(table, c ^ s[i]);
-        i += 1;
+    for b in s {
+        c = shift8(table, c ^ *b);
     }
     c
 }
 
 // Eight places.
+#[tactic(auto, using(crate::proofs::Entries::table_rule))]
 fn shift8(table: &Table, c: u8) -> u8
     requires { table.now ≡ entries }
     ensures { result ≡ shifted_by byte_bits c }
 {
-    table[c as usize]
+    table[usize::from(c)]
 }

@@ -1,8 +1,7 @@
 -- Laws of the definitions that the contracts cite: what an accepted state is, how a PDU is laid, and each way out of a push.
-use Rattle.std.proofs.Common.{◌≡◌, ℕ, ◌+◌, ◌*◌, ◌%◌, ◌^◌, ◌<◌, ◌≤◌, max, Bool, true, false, ◌&&◌, eqb, leb, ◌≢◌, List, length, take, sym, refl, ap, ◌∙◌, arith, length-set, length-take, eq-eqb, ne_eqb, eqb-true, le-leb, leb-true}
-use borrow.Author.Tests.{eqb-false, lt-leb}
+use Rattle.std.proofs.Common.{◌≡◌, ℕ, ◌+◌, ◌*◌, ◌%◌, ◌≤◌, Bool, true, false, ◌&&◌, eqb, leb, ◌≢◌, List, length, take, refl, ap, ◌∙◌, arith, length-set, length-take, eqb-true, le-leb, leb-true}
+use borrow.Author.Tests.{eqb-false}
 use Rattle.refusal.specs.Said.{pick}
-use Rattle.refusal.specs.declared.Refusal.TheVariants.{TooLong, BadArgument}
 use Rattle.refusal.proofs.Tests.{both}
 use Rattle.wire.specs.Bytes.{overlay, laid}
 use Rattle.wire.proofs.Laws.{length-overlay, overlay-next, laid-whole}
@@ -10,12 +9,9 @@ use Rattle.pdu.specs.Pdu.{area_most, pdu_overhead, header_bytes, header_of}
 use Rattle.created_frame.specs.declared.Builder.{Builder}
 use Rattle.created_frame.specs.declared.PduResponseHandle.{PduResponseHandle}
 use Rattle.created_frame.specs.declared.Push.{Push}
-use Rattle.created_frame.specs.declared.Pushed.TheVariants as pushing
-use Rattle.created_frame.specs.declared.RestPush.{RestPush}
-use Rattle.created_frame.specs.declared.Rest.TheVariants as resting
-use Rattle.created_frame.specs.Answers.{said_pushed, said_rest}
+use Rattle.created_frame.specs.Answers.{said_pushed}
 use Rattle.created_frame.specs.Bounds.{Sound, InBounds}
-use Rattle.created_frame.specs.Frame.{command_most, data_most, more, marked, sound, acceptable, room, with_pdu, Roomy, grown, pushed, pushed_builder, pushed_next, after_push, taken, rest_pushed, rest_builder, rest_next, after_rest}
+use Rattle.created_frame.specs.Frame.{command_most, data_most, more, marked, sound, acceptable, with_pdu, Roomy, pushed, pushed_builder, pushed_next, after_push, taken}
 
 -- ---- what an accepted state and lengths are
 
@@ -103,67 +99,11 @@ pub in_largest : (size : ℕ) (b : Builder) (len given : ℕ) → Roomy size b l
 in_largest size b len given r =
     record { small = omega arith; fits = omega arith; given_fits = omega arith; counted = r.counted; header_in = r.header_in }
 
--- ---- the three ways out of a push: the answer, the state and the index, and the area
+-- ---- what is promised of a push: the answer, the state and the index, and the area
 
 module _ (xs : List ℕ) (b : Builder) (index command address : ℕ) (bytes : List ℕ) (over : ℕ) where
-  abbrev pub Met : Push → List ℕ → Type 0
+  abbrev pub Met : Push PduResponseHandle → List ℕ → Type 0
   Met r ys =
       (said_pushed r.answer ≡ pushed (length xs) b index command (length bytes) over)
       × (((r.builder ≡ pushed_builder (length xs) b command (length bytes) over) × (r.next ≡ pushed_next (length xs) b index command (length bytes) over))
       × (ys ≡ after_push xs b index command address bytes over))
-
-  pub is-bad : (r : Push) → acceptable (length xs) b command (length bytes) over ≡ false
-      → r ≡ record { answer = pushing.No BadArgument; builder = b; next = index } → Met r xs
-  unfolding pushed pushed_builder pushed_next after_push
-  is-bad r e q = rw q (simp e, ((simp e, simp e), simp e))
-
-  pub is_too_long : (r : Push) (len next : ℕ) → acceptable (length xs) b command (length bytes) over ≡ true
-      → len ≡ max (length bytes) over → next ≡ (index + 1) % 2 ^ 8 → length xs < b.used + (len + 12)
-      → r ≡ record { answer = pushing.No TooLong; builder = b; next = next } → Met r xs
-  unfolding pushed pushed_builder pushed_next after_push room
-  is_too_long r len next e m n h q =
-      let f : leb (b.used + (max (length bytes) over + 12)) (length xs) ≡ false =
-      lt-leb (b.used + (max (length bytes) over + 12)) (length xs) (omega arith) in
-      rw q (simp (e, f), ((simp (e, f), rw n (simp e)), simp (e, f)))
-
-  pub is-done : (len next : ℕ) (ys : List ℕ) (h : PduResponseHandle) (c : Builder) → acceptable (length xs) b command (length bytes) over ≡ true
-      → len ≡ max (length bytes) over → next ≡ (index + 1) % 2 ^ 8 → b.used + (len + 12) ≤ length xs
-      → ys ≡ with_pdu xs b index command address len bytes
-      → h ≡ record { start = b.used; size = len + 12; index = index; command = command } → c ≡ grown b len
-      → Met (record { answer = pushing.Done h; builder = c; next = next }) ys
-  unfolding pushed pushed_builder pushed_next after_push room
-  is-done len next ys h c e m n i q u v =
-      let f : leb (b.used + (max (length bytes) over + 12)) (length xs) ≡ true =
-      le-leb (b.used + (max (length bytes) over + 12)) (length xs) (omega arith) in
-      (rw (u, m) (simp (e, f)), ((rw (v, m) (simp (e, f)), rw n (simp e)), rw (q, m) (simp (e, f))))
-
--- ---- the three ways out of a push of as much as fits
-
-module _ (xs : List ℕ) (b : Builder) (index command address : ℕ) (bytes : List ℕ) where
-  abbrev pub RestMet : RestPush → List ℕ → Type 0
-  RestMet r ys =
-      (said_rest r.answer ≡ rest_pushed (length xs) b index command (length bytes))
-      × (((r.builder ≡ rest_builder (length xs) b command (length bytes)) × (r.next ≡ rest_next (length xs) b index command (length bytes)))
-      × (ys ≡ after_rest xs b index command address bytes))
-
-  pub rest_bad : (r : RestPush) → acceptable (length xs) b command (length bytes) 0 ≡ false
-      → r ≡ record { answer = resting.No BadArgument; builder = b; next = index } → RestMet r xs
-  unfolding rest_pushed rest_builder rest_next after_rest
-  rest_bad r e q = rw q (simp e, ((simp e, simp e), simp e))
-
-  pub rest_absent : (r : RestPush) (n : ℕ) → acceptable (length xs) b command (length bytes) 0 ≡ true
-      → n ≡ taken (length xs) b.used (length bytes) → n ≡ 0 → r ≡ record { answer = resting.Absent; builder = b; next = index } → RestMet r xs
-  unfolding rest_pushed rest_builder rest_next after_rest
-  rest_absent r n e m z q =
-      let f : eqb (taken (length xs) b.used (length bytes)) 0 ≡ true = eq-eqb (taken (length xs) b.used (length bytes)) 0 (sym m ∙ z) in
-      rw q (simp (e, f), ((simp (e, f), simp (e, f)), simp (e, f)))
-
-  pub rest_done : (n next : ℕ) (ys : List ℕ) (h : PduResponseHandle) (c : Builder) → acceptable (length xs) b command (length bytes) 0 ≡ true
-      → n ≡ taken (length xs) b.used (length bytes) → (n ≡ 0 → ⊥) → next ≡ (index + 1) % 2 ^ 8
-      → ys ≡ with_pdu xs b index command address n (take n bytes)
-      → h ≡ record { start = b.used; size = n + 12; index = index; command = command } → c ≡ grown b n
-      → RestMet (record { answer = resting.Done n h; builder = c; next = next }) ys
-  unfolding rest_pushed rest_builder rest_next after_rest
-  rest_done n next ys h c e m z o q u v =
-      let f : eqb (taken (length xs) b.used (length bytes)) 0 ≡ false = ne_eqb (taken (length xs) b.used (length bytes)) 0 (λ t. z (m ∙ t)) in
-      (rw (u, m) (simp (e, f)), ((rw (v, m) (simp (e, f)), rw o (simp (e, f))), rw (q, m) (simp (e, f))))

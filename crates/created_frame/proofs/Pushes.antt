@@ -1,5 +1,5 @@
 -- What `push_pdu` does, said of its own result: the contract's equations, taken apart by the outcomes of the two tests, are what `Pushes` says.
-use Rattle.std.proofs.Common.{◌≡◌, ℕ, ◌+◌, ◌*◌, ◌%◌, ◌<◌, ◌≤◌, max, Bool, true, false, List, [], ◌∷◌, ◌++◌, length, sym, refl, ◌∙◌, arith, leb-false, leb-true}
+use Rattle.std.proofs.Common.{Ok, Err, ◌≡◌, ℕ, ◌+◌, ◌*◌, ◌%◌, ◌<◌, ◌≤◌, max, Bool, true, false, List, [], ◌∷◌, ◌++◌, length, sym, refl, ◌∙◌, arith, leb-false, leb-true}
 use Rattle.refusal.specs.Said.{refuses}
 use Rattle.refusal.specs.declared.Refusal.{Refusal}
 use Rattle.refusal.specs.declared.Refusal.TheVariants.{TooLong, BadArgument}
@@ -8,7 +8,6 @@ use Rattle.pdu.specs.Pdu.{pdu_overhead, flags_at, more_bit, Pdu}
 use Rattle.created_frame.specs.declared.Builder.{Builder}
 use Rattle.created_frame.specs.declared.PduResponseHandle.{PduResponseHandle}
 use Rattle.created_frame.specs.declared.Push.{Push}
-use Rattle.created_frame.specs.declared.Pushed.TheVariants.{Done, No}
 use Rattle.created_frame.specs.Frame.{acceptable, room, more_on, with_pdu, grown, after, Roomy, pushed, pushed_builder, pushed_next, after_push}
 use Rattle.created_frame.specs.Bounds.{InBounds}
 use Rattle.created_frame.specs.Built.{made, push_adds, Ours, then_pushed}
@@ -49,7 +48,7 @@ module _ (xs : List ℕ) (b : Builder) (index command address len : ℕ) (bytes 
 
 -- ---- the call
 
-module _ (xs : List ℕ) (b : Builder) (index command address : ℕ) (bytes : List ℕ) (over : ℕ) (r : Push) (ys : List ℕ) (met : Met xs b index command address bytes over r ys) where
+module _ (xs : List ℕ) (b : Builder) (index command address : ℕ) (bytes : List ℕ) (over : ℕ) (r : Push PduResponseHandle) (ys : List ℕ) (met : Met xs b index command address bytes over r ys) where
   abbrev size : ℕ
   size = length xs
 
@@ -63,27 +62,27 @@ module _ (xs : List ℕ) (b : Builder) (index command address : ℕ) (bytes : Li
   Within = InBounds size b command given over
 
   -- out of bounds
-  at-14 : acceptable size b command given over ≡ false → (r.answer ≡ No BadArgument) × (r.builder ≡ b) × (r.next ≡ index) × (ys ≡ xs)
+  at-14 : acceptable size b command given over ≡ false → (r.answer ≡ Err BadArgument) × (r.builder ≡ b) × (r.next ≡ index) × (ys ≡ xs)
   unfolding pushed pushed_builder pushed_next after_push
   at-14 e =
-      (pushed_unique r.answer (No BadArgument) (refuses 14 []) (met.0 ∙ simp e) refl, met.1.0.0 ∙ simp e, met.1.0.1 ∙ simp e, met.1.1 ∙ simp e)
+      (pushed_unique r.answer (Err BadArgument) (refuses 14 []) (met.0 ∙ simp e) refl, met.1.0.0 ∙ simp e, met.1.0.1 ∙ simp e, met.1.1 ∙ simp e)
 
   -- no space
   at_8 : acceptable size b command given over ≡ true → room size b len ≡ false
-      → (r.answer ≡ No TooLong) × (r.builder ≡ b) × (r.next ≡ after index) × (ys ≡ xs)
+      → (r.answer ≡ Err TooLong) × (r.builder ≡ b) × (r.next ≡ after index) × (ys ≡ xs)
   unfolding pushed pushed_builder pushed_next after_push
   at_8 e f =
-      (pushed_unique r.answer (No TooLong) (refuses 8 []) (met.0 ∙ simp (e, f)) refl, met.1.0.0 ∙ simp (e, f), met.1.0.1 ∙ simp e, met.1.1 ∙ simp (e, f))
+      (pushed_unique r.answer (Err TooLong) (refuses 8 []) (met.0 ∙ simp (e, f)) refl, met.1.0.0 ∙ simp (e, f), met.1.0.1 ∙ simp e, met.1.1 ∙ simp (e, f))
 
   -- pushed
   at_done : acceptable size b command given over ≡ true → room size b len ≡ true
-      → (r.answer ≡ Done (handle_of b len index command)) × (r.builder ≡ grown b len) × (r.next ≡ after index) × (ys ≡ with_pdu xs b index command address len bytes)
+      → (r.answer ≡ Ok (handle_of b len index command)) × (r.builder ≡ grown b len) × (r.next ≡ after index) × (ys ≡ with_pdu xs b index command address len bytes)
   unfolding pushed pushed_builder pushed_next after_push
   at_done e f =
-      (pushed_unique r.answer (Done (handle_of b len index command)) _ (met.0 ∙ simp (e, f)) refl, met.1.0.0 ∙ simp (e, f), met.1.0.1 ∙ simp e, met.1.1 ∙ simp (e, f))
+      (pushed_unique r.answer (Ok (handle_of b len index command)) _ (met.0 ∙ simp (e, f)) refl, met.1.0.0 ∙ simp (e, f), met.1.0.1 ∙ simp e, met.1.1 ∙ simp (e, f))
 
   -- a refusal gives no handle
-  refused_not : (x : Refusal) (h : PduResponseHandle) → r.answer ≡ No x → r.answer ≡ Done h → ⊥
+  refused_not : (x : Refusal) (h : PduResponseHandle) → r.answer ≡ Err x → r.answer ≡ Ok h → ⊥
   refused_not x h p q = let z : ◌≡◌ {A = ℕ} 0 1 = cc in omega arith
 
   space : room size b len ≡ true → b.used + (len + pdu_overhead) ≤ size

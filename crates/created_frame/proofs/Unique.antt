@@ -1,110 +1,74 @@
 -- An answer is known from what it says, by an inverse: so each promise allows one result.
-use Rattle.std.proofs.Common.{◌≡◌, ℕ, suc, true, false, eqb, List, get_or, sym, refl, ap, ◌∙◌}
-use Rattle.refusal.specs.Said.{Said, gives, absent, refuses}
-use Rattle.refusal.specs.declared.Refusal.TheVariants.{BadArgument}
-use Rattle.refusal.proofs.Unique.{unique, refusal_of, back}
-use Rattle.created_frame.specs.Answers.{said_opened, said_pushed, said_rest, said_can}
+use Rattle.std.proofs.Common.{◌≡◌, ℕ, Bool, true, false, eqb, List, get_or, sym, refl, ap, ◌∙◌, Option, Result}
+use Rattle.refusal.specs.Said.{Said}
+use Rattle.refusal.specs.declared.Refusal.{Refusal}
+use Rattle.refusal.proofs.Unique.{said_unique, said_if_any_unique}
+use Rattle.created_frame.specs.Answers.{handle_values, rest_values, state_values, can_values, said_opened, said_pushed, said_rest, said_can}
 use Rattle.created_frame.specs.declared.Builder.{Builder}
 use Rattle.created_frame.specs.declared.PduResponseHandle.{PduResponseHandle}
-use Rattle.created_frame.specs.declared.Opened.{Opened}
-use Rattle.created_frame.specs.declared.Opened.TheVariants as opening
-use Rattle.created_frame.specs.declared.Pushed.{Pushed}
-use Rattle.created_frame.specs.declared.Pushed.TheVariants as pushing
 use Rattle.created_frame.specs.declared.Push.{Push}
-use Rattle.created_frame.specs.declared.Rest.{Rest}
-use Rattle.created_frame.specs.declared.Rest.TheVariants as resting
-use Rattle.created_frame.specs.declared.RestPush.{RestPush}
-use Rattle.created_frame.specs.declared.CanPush.{CanPush}
-use Rattle.created_frame.specs.declared.CanPush.TheVariants as asking
 
--- the PDU whose values stand from i on
-abbrev handle_of : List ℕ → ℕ → PduResponseHandle
-handle_of l i = record { start = get_or l i 0; size = get_or l (suc i) 0; index = get_or l (suc (suc i)) 0; command = get_or l (suc (suc (suc i))) 0 }
+-- the state of these values, the PDU, the bytes with the PDU, and the test
+abbrev state_of : List ℕ → Builder
+state_of l = record { used = get_or l 0 0; count = get_or l 1 0; last = get_or l 2 0 }
+
+abbrev handle_of : List ℕ → PduResponseHandle
+handle_of l = record { start = get_or l 0 0; size = get_or l 1 0; index = get_or l 2 0; command = get_or l 3 0 }
+
+abbrev rest_of : List ℕ → ℕ × PduResponseHandle
+rest_of l = (get_or l 0 0, record { start = get_or l 1 0; size = get_or l 2 0; index = get_or l 3 0; command = get_or l 4 0 })
+
+abbrev can_of : List ℕ → Bool
+can_of l = eqb (get_or l 0 0) 1
+
+can_back : (t : Bool) → can_of (can_values t) ≡ t
+can_back true = refl
+can_back false = refl
 
 -- ---- opening
 
-unfoldable opened_of : Said → Opened
-opened_of (gives l) = opening.Ready (record { used = get_or l 0 0; count = get_or l 1 0; last = get_or l 2 0 })
-opened_of absent = opening.No BadArgument
-opened_of (refuses n l) = opening.No (refusal_of n l)
-
-opened-back : (r : Opened) → opened_of (said_opened r) ≡ r
-unfolding opened_of
-opened-back (opening.Ready b) = refl
-opened-back (opening.No x) = ap opening.No (back x)
-
-pub opened_unique : (a b : Opened) (s : Said) → said_opened a ≡ s → said_opened b ≡ s → a ≡ b
-opened_unique = unique said_opened opened_of opened-back
+pub opened_unique : (a b : Result Builder Refusal) (s : Said) → said_opened a ≡ s → said_opened b ≡ s → a ≡ b
+opened_unique = said_unique state_values state_of (λ (b : Builder). refl)
 
 -- ---- a push
 
-unfoldable pushed_of : Said → Pushed
-pushed_of (gives l) = pushing.Done (handle_of l 0)
-pushed_of absent = pushing.No BadArgument
-pushed_of (refuses n l) = pushing.No (refusal_of n l)
+pub pushed_unique : (a b : Result PduResponseHandle Refusal) (s : Said) → said_pushed a ≡ s → said_pushed b ≡ s → a ≡ b
+pushed_unique = said_unique handle_values handle_of (λ (h : PduResponseHandle). refl)
 
-pushed_back : (r : Pushed) → pushed_of (said_pushed r) ≡ r
-unfolding pushed_of
-pushed_back (pushing.Done h) = refl
-pushed_back (pushing.No x) = ap pushing.No (back x)
+-- what is promised of one result of a push, whose answer is said by `say`
+abbrev Gives : {T : Type 0} → (Result T Refusal → Said) → Said → Builder → ℕ → Push T → Type 0
+Gives say s b n r = (say r.answer ≡ s) × ((r.builder ≡ b) × (r.next ≡ n))
 
-pub pushed_unique : (a b : Pushed) (s : Said) → said_pushed a ≡ s → said_pushed b ≡ s → a ≡ b
-pushed_unique = unique said_pushed pushed_of pushed_back
+module _ {T : Type 0} (say : Result T Refusal → Said) (once : (a b : Result T Refusal) (s : Said) → say a ≡ s → say b ≡ s → a ≡ b) where
+  one_push : (s : Said) (b : Builder) (n : ℕ) (x y : Push T) → Gives say s b n x → Gives say s b n y → x ≡ y
+  one_push s b n x y p q =
+      let e : x.answer ≡ y.answer = once x.answer y.answer s p.0 q.0 in
+      let f : x.builder ≡ y.builder = p.1.0 ∙ sym q.1.0 in
+      let g : x.next ≡ y.next = p.1.1 ∙ sym q.1.1 in
+      ap (λ (z : Result T Refusal). record { answer = z; builder = x.builder; next = x.next }) e
+      ∙ ap (λ (z : Builder). record { answer = y.answer; builder = z; next = x.next }) f
+      ∙ ap (λ (z : ℕ). record { answer = y.answer; builder = y.builder; next = z }) g
 
--- what is promised of one result of `push_pdu`
-abbrev pub PushGives : Said → Builder → ℕ → Push → Type 0
-PushGives s b n r = (said_pushed r.answer ≡ s) × ((r.builder ≡ b) × (r.next ≡ n))
+-- .. of `push_pdu`
+abbrev pub PushGives : Said → Builder → ℕ → Push PduResponseHandle → Type 0
+PushGives = Gives said_pushed
 
-pub push_unique : (s : Said) (b : Builder) (n : ℕ) (x y : Push) → PushGives s b n x → PushGives s b n y → x ≡ y
-push_unique s b n x y p q =
-    let e : x.answer ≡ y.answer = pushed_unique x.answer y.answer s p.0 q.0 in
-    let f : x.builder ≡ y.builder = p.1.0 ∙ sym q.1.0 in
-    let g : x.next ≡ y.next = p.1.1 ∙ sym q.1.1 in
-    ap (λ (z : Pushed). record { answer = z; builder = x.builder; next = x.next }) e
-    ∙ ap (λ (z : Builder). record { answer = y.answer; builder = z; next = x.next }) f
-    ∙ ap (λ (z : ℕ). record { answer = y.answer; builder = y.builder; next = z }) g
+pub push_unique : (s : Said) (b : Builder) (n : ℕ) (x y : Push PduResponseHandle) → PushGives s b n x → PushGives s b n y → x ≡ y
+push_unique = one_push said_pushed pushed_unique
 
 -- ---- a push of as much as fits
 
-unfoldable rest_of : Said → Rest
-rest_of (gives l) = resting.Done (get_or l 0 0) (handle_of l 1)
-rest_of absent = resting.Absent
-rest_of (refuses n l) = resting.No (refusal_of n l)
+rest_unique : (a b : Result (Option (ℕ × PduResponseHandle)) Refusal) (s : Said) → said_rest a ≡ s → said_rest b ≡ s → a ≡ b
+rest_unique = said_if_any_unique rest_values rest_of (λ (r : ℕ × PduResponseHandle). refl)
 
-rest_back : (r : Rest) → rest_of (said_rest r) ≡ r
-unfolding rest_of
-rest_back (resting.Done n h) = refl
-rest_back resting.Absent = refl
-rest_back (resting.No x) = ap resting.No (back x)
+-- .. of `push_pdu_slice_rest`
+abbrev pub RestGives : Said → Builder → ℕ → Push (Option (ℕ × PduResponseHandle)) → Type 0
+RestGives = Gives said_rest
 
-rest_unique : (a b : Rest) (s : Said) → said_rest a ≡ s → said_rest b ≡ s → a ≡ b
-rest_unique = unique said_rest rest_of rest_back
-
--- what is promised of one result of `push_pdu_slice_rest`
-abbrev pub RestGives : Said → Builder → ℕ → RestPush → Type 0
-RestGives s b n r = (said_rest r.answer ≡ s) × ((r.builder ≡ b) × (r.next ≡ n))
-
-pub rest_push_unique : (s : Said) (b : Builder) (n : ℕ) (x y : RestPush) → RestGives s b n x → RestGives s b n y → x ≡ y
-rest_push_unique s b n x y p q =
-    let e : x.answer ≡ y.answer = rest_unique x.answer y.answer s p.0 q.0 in
-    let f : x.builder ≡ y.builder = p.1.0 ∙ sym q.1.0 in
-    let g : x.next ≡ y.next = p.1.1 ∙ sym q.1.1 in
-    ap (λ (z : Rest). record { answer = z; builder = x.builder; next = x.next }) e
-    ∙ ap (λ (z : Builder). record { answer = y.answer; builder = z; next = x.next }) f
-    ∙ ap (λ (z : ℕ). record { answer = y.answer; builder = y.builder; next = z }) g
+pub rest_push_unique : (s : Said) (b : Builder) (n : ℕ) (x y : Push (Option (ℕ × PduResponseHandle))) → RestGives s b n x → RestGives s b n y → x ≡ y
+rest_push_unique = one_push said_rest rest_unique
 
 -- ---- whether a payload has room
 
-unfoldable can_of : Said → CanPush
-can_of (gives l) = asking.Room (eqb (get_or l 0 0) 1)
-can_of absent = asking.No BadArgument
-can_of (refuses n l) = asking.No (refusal_of n l)
-
-can_back : (r : CanPush) → can_of (said_can r) ≡ r
-unfolding can_of
-can_back (asking.Room true) = refl
-can_back (asking.Room false) = refl
-can_back (asking.No x) = ap asking.No (back x)
-
-pub can_unique : (a b : CanPush) (s : Said) → said_can a ≡ s → said_can b ≡ s → a ≡ b
-can_unique = unique said_can can_of can_back
+pub can_unique : (a b : Result Bool Refusal) (s : Said) → said_can a ≡ s → said_can b ≡ s → a ≡ b
+can_unique = said_unique can_values can_of can_back

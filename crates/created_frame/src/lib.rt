@@ -2,7 +2,7 @@
 // headers are packed by `pdu`. The state of an area goes in and comes back by value, and so does the index counter.
 #![tactic(auto)]
 
-ghost use Rattle.std.specs.Prelude.{◌≡◌, ◌+◌, ◌<◌, ◌≤◌, max, length};
+ghost use Rattle.std.specs.Prelude.{◌≡◌, ◌+◌, ◌<◌, ◌≤◌, length};
 ghost use Rattle.pdu.specs.Pdu.{area_most, pdu_overhead, more_at};
 ghost use Rattle.created_frame.specs.Frame.{marked, sound, acceptable, with_pdu, Roomy, grown, pushed, pushed_builder, pushed_next, after_push, opened, after_open, taken, rest_pushed, rest_builder, rest_next, after_rest, can_push};
 ghost use Rattle.created_frame.specs.Answers.{handle_values, state_values, said_opened, said_pushed, said_rest, said_can};
@@ -13,12 +13,14 @@ use refusal::Refusal;
 // A PDU's bytes over its payload: its header, and the working counter behind the payload.
 pub const PDU_OVERHEAD_BYTES: usize = pdu::PDU_OVERHEAD_BYTES;
 
+// A command is a number and no enum: the calls take any, and refuse one past the last with 14.
 const COMMAND_MOST: u8 = 14;
 
 const DATA_MOST: usize = 65535;
 
 // The state of one area: bytes used, PDUs pushed, and where the last PDU starts (of no meaning at count 0).
-#[derive(Clone, Copy)]
+// `last` is a number and no Option: the C interface and `sound` speak of a number, at count 0 too.
+#[derive(Clone, Copy, Default)]
 pub struct Builder {
     pub used: usize,
     pub count: usize,
@@ -34,79 +36,34 @@ pub struct PduResponseHandle {
     pub command: u8,
 }
 
-// What opening an area answers.
+// A push's answer, the state after it, and the index of the next PDU. State and index stand beside the answer and not in its Ok,
+// since a refusal gives them too: one with 8 uses up an index (the clause `state` of `push_pdu`).
 #[derive(Clone, Copy)]
-pub enum Opened {
-    // The state of an empty area.
-    Ready(Builder),
-    // 14: an area of more than 2,047 bytes.
-    No(Refusal),
-}
-
-// What a push answers.
-#[derive(Clone, Copy)]
-pub enum Pushed {
-    Done(PduResponseHandle),
-    // 14: a state, command or length out of bounds. 8: no space.
-    No(Refusal),
-}
-
-// A push's answer, the state after it, and the index of the next PDU.
-#[derive(Clone, Copy)]
-pub struct Push {
-    pub answer: Pushed,
+pub struct Push<T = PduResponseHandle> {
+    pub answer: Result<T, Refusal>,
     pub builder: Builder,
     pub next: u8,
 }
 
-// What a push of as much as fits answers.
-#[derive(Clone, Copy)]
-pub enum Rest {
-    // How many bytes went in, and the PDU.
-    Done {
-        taken: usize,
-        pdu: PduResponseHandle,
-    },
-    // No input, or no room.
-    Absent,
-    // 14: a state, command or length out of bounds.
-    No(Refusal),
-}
+// A push of as much as fits answers how many bytes went in, and the PDU; or None, where not one had room.
+pub type RestPush = Push<Option<(usize, PduResponseHandle)>>;
 
-// Its answer, the state after it, and the index of the next PDU.
-#[derive(Clone, Copy)]
-pub struct RestPush {
-    pub answer: Rest,
-    pub builder: Builder,
-    pub next: u8,
-}
-
-// Whether a payload has room.
-#[derive(Clone, Copy)]
-pub enum CanPush {
-    Room(bool),
-    // 14: a state or length out of bounds.
-    No(Refusal),
-}
-
-// Zeroes the area, and gives the state of an empty one.
-#[tactic(auto, unfolding(crate::specs::Frame::opened, crate::specs::Frame::after_open))]
-pub fn open(area: &mut [u8]) -> Opened
+// Zeroes the area, and gives the state of an empty one. One of more than 2,047 bytes is refused with 14, and stays as it was.
+#[tactic(auto, using(crate::proofs::Blank::builder_blank), unfolding(crate::specs::Frame::opened, crate::specs::Frame::after_open))]
+pub fn open(area: &mut [u8]) -> Result<Builder, Refusal>
     ensures answer { said_opened result ≡ opened (length area.old) }
     ensures whole { area.new ≡ after_open area.old }
 {
-    if AREA_MOST < area.len() {
-        return Opened::No(Refusal::BadArgument);
+    if area.len() > AREA_MOST {
+        return Err(Refusal::BadArgument);
     }
-    wire::fill(area, 0);
-    Opened::Ready(Builder {
-        used: 0,
-        count: 0,
-        last: 0,
-    })
+    area.fill(0);
+    Ok(Builder::default())
 }
 
 // Pushes a PDU of these bytes; its payload is as long as the larger of their count and `over`.
+// What is out of bounds is refused with 14, and a PDU that has no space with 8.
+// Index, command and address stand side by side and in no struct: the rules (`pushed`, `after_push`) and the C interface take them one by one.
 #[tactic(auto, using(crate::proofs::Laws::accepted, crate::proofs::Laws::has_room, crate::proofs::Laws::in_largest), unfolding(crate::specs::Frame::pushed, crate::specs::Frame::pushed_builder, crate::specs::Frame::pushed_next, crate::specs::Frame::after_push, crate::specs::Frame::room))]
 pub fn push_pdu(
     area: &mut [u8],
@@ -122,23 +79,23 @@ pub fn push_pdu(
         × (result.next ≡ pushed_next (length area.old) b index command (length bytes.now) over) }
     ensures whole { area.new ≡ after_push area.old b index command address bytes.now over }
 {
-    let next = std::num::wrapping_add_u8(index, 1);
+    let next = index.wrapping_add(1);
     if !is_acceptable(area.len(), b, command, bytes.len(), over) {
-        return refused(Refusal::BadArgument, b, index);
+        return without(Err(Refusal::BadArgument), b, index);
     }
-    let len = larger(bytes.len(), over);
+    let len = bytes.len().max(over);
     if area.len() < b.used + (len + PDU_OVERHEAD_BYTES) {
-        return refused(Refusal::TooLong, b, next);
+        return without(Err(Refusal::TooLong), b, next);
     }
     append(area, b, index, command, address, len, bytes);
     Push {
-        answer: Pushed::Done(handle_of(b, len, index, command)),
+        answer: Ok(handle_of(b, len, index, command)),
         builder: grow(b, len),
         next,
     }
 }
 
-// Pushes a PDU of the first of these bytes: as many as have room.
+// Pushes a PDU of the first of these bytes: as many as have room. What is out of bounds is refused with 14.
 #[tactic(auto, using(crate::proofs::Laws::accepted, crate::proofs::Laws::rest_room, crate::proofs::Laws::in_largest), unfolding(crate::specs::Frame::rest_pushed, crate::specs::Frame::rest_builder, crate::specs::Frame::rest_next, crate::specs::Frame::after_rest))]
 pub fn push_pdu_slice_rest(
     area: &mut [u8],
@@ -153,37 +110,31 @@ pub fn push_pdu_slice_rest(
         × (result.next ≡ rest_next (length area.old) b index command (length bytes.now)) }
     ensures whole { area.new ≡ after_rest area.old b index command address bytes.now }
 {
-    let next = std::num::wrapping_add_u8(index, 1);
+    let next = index.wrapping_add(1);
     if !is_acceptable(area.len(), b, command, bytes.len(), 0) {
-        return without(Rest::No(Refusal::BadArgument), b, index);
+        return without(Err(Refusal::BadArgument), b, index);
     }
     let n = rest_len(area.len(), b.used, bytes.len());
     if n == 0 {
-        return without(Rest::Absent, b, index);
+        return without(Ok(None), b, index);
     }
     append(area, b, index, command, address, n, &bytes[..n]);
-    RestPush {
-        answer: Rest::Done {
-            taken: n,
-            pdu: handle_of(b, n, index, command),
-        },
+    Push {
+        answer: Ok(Some((n, handle_of(b, n, index, command)))),
         builder: grow(b, n),
         next,
     }
 }
 
-// Whether a PDU of len payload bytes has room.
+// Whether a PDU of len payload bytes has room. A state or a length that is out of bounds is refused with 14.
 #[tactic(auto, unfolding(crate::specs::Frame::can_push, crate::specs::Frame::room, crate::specs::Frame::sound))]
-pub fn can_push_pdu_payload(size: usize, b: Builder, len: usize) -> CanPush
+pub fn can_push_pdu_payload(size: usize, b: Builder, len: usize) -> Result<bool, Refusal>
     ensures { said_can result ≡ can_push size b len }
 {
-    if !is_sound(size, b) {
-        return CanPush::No(Refusal::BadArgument);
+    if !is_sound(size, b) || len > DATA_MOST {
+        return Err(Refusal::BadArgument);
     }
-    if DATA_MOST < len {
-        return CanPush::No(Refusal::BadArgument);
-    }
-    CanPush::Room(b.used + (len + PDU_OVERHEAD_BYTES) <= size)
+    Ok(b.used + (len + PDU_OVERHEAD_BYTES) <= size)
 }
 
 // The state fits an area of size bytes.
@@ -191,31 +142,16 @@ pub fn can_push_pdu_payload(size: usize, b: Builder, len: usize) -> CanPush
 pub fn is_sound(size: usize, b: Builder) -> bool
     ensures { result ≡ sound size b }
 {
-    let used = b.used;
-    let count = b.count;
-    let last = b.last;
-    if AREA_MOST < size {
+    if size > AREA_MOST || b.used > size {
         return false;
     }
-    if size < used {
-        return false;
+    if b.count == 0 {
+        return b.used == 0;
     }
-    if count == 0 {
-        return used == 0;
-    }
-    if used / PDU_OVERHEAD_BYTES < count {
-        return false;
-    }
-    if used < HEADER_BYTES {
-        return false;
-    }
-    if used - HEADER_BYTES < last {
-        return false;
-    }
-    true
+    b.count <= b.used / PDU_OVERHEAD_BYTES && b.last <= b.used - HEADER_BYTES
 }
 
-// A state as a row of numbers: used, count, last.
+// A state as a row of numbers: used, count, last. A function by its name and no `From`: it is a public call with a row in `pinned`.
 pub fn state_row(b: Builder) -> [u64; 3]
     ensures { result ≡ state_values b }
 {
@@ -223,14 +159,15 @@ pub fn state_row(b: Builder) -> [u64; 3]
 }
 
 // A handle as a row of numbers: the PDU's place, its whole size, its index, its command.
+// A function by its name and no `From`: it is a public call with a row in `pinned`.
 pub fn handle_row(h: PduResponseHandle) -> [u64; 4]
     ensures { result ≡ handle_values h }
 {
     [
         h.start as u64,
         h.size as u64,
-        h.index as u64,
-        h.command as u64,
+        u64::from(h.index),
+        u64::from(h.command),
     ]
 }
 
@@ -239,26 +176,7 @@ pub fn handle_row(h: PduResponseHandle) -> [u64; 4]
 fn is_acceptable(size: usize, b: Builder, command: u8, given: usize, over: usize) -> bool
     ensures { result ≡ acceptable size b command given over }
 {
-    if !is_sound(size, b) {
-        return false;
-    }
-    if COMMAND_MOST < command {
-        return false;
-    }
-    if DATA_MOST < given {
-        return false;
-    }
-    if DATA_MOST < over {
-        return false;
-    }
-    true
-}
-
-// The larger of two.
-fn larger(a: usize, b: usize) -> usize
-    ensures { result ≡ max a b }
-{
-    if a < b { b } else { a }
+    is_sound(size, b) && command <= COMMAND_MOST && given <= DATA_MOST && over <= DATA_MOST
 }
 
 // How many of `given` bytes have room in an area of size bytes with `used` used.
@@ -266,11 +184,7 @@ fn rest_len(size: usize, used: usize, given: usize) -> usize
     requires { used ≤ size }
     ensures { result ≡ taken size used given }
 {
-    let free = size - used;
-    if free < PDU_OVERHEAD_BYTES {
-        return 0;
-    }
-    wire::lesser(given, free - PDU_OVERHEAD_BYTES)
+    given.min((size - used).saturating_sub(PDU_OVERHEAD_BYTES))
 }
 
 // A PDU of len payload bytes behind the used ones, of which `bytes` are written; its last two bytes, the working counter, are not.
@@ -332,22 +246,11 @@ fn handle_of(b: Builder, len: usize, index: u8, command: u8) -> PduResponseHandl
     }
 }
 
-// A refused push: the state is as it was.
-fn refused(x: Refusal, b: Builder, next: u8) -> Push
-    ensures { result ≡ record { answer = Pushed.No x; builder = b; next = next } }
-{
-    Push {
-        answer: Pushed::No(x),
-        builder: b,
-        next,
-    }
-}
-
-// A push of as much as fits that adds no PDU.
-fn without(answer: Rest, b: Builder, next: u8) -> RestPush
+// A push that adds no PDU: the state is as it was.
+fn without<T: Copy>(answer: Result<T, Refusal>, b: Builder, next: u8) -> Push<T>
     ensures { result ≡ record { answer = answer; builder = b; next = next } }
 {
-    RestPush {
+    Push {
         answer,
         builder: b,
         next,

@@ -1,209 +1,141 @@
 // The requests on frames: the builder, the frame header, the reader.
-use crate::numbers::{at, byte, long, put, put_all};
-use crate::reply::{
-    FIRST, Reply, absent, gives, gives_one, gives_row, refuses, unreadable, with_record, with_slice,
-};
-use created_frame::{
-    Builder, CanPush, Opened, Push, Pushed, Rest, RestPush, handle_row, state_row,
-};
-use frame_reader::{FrameAnswer, FrameRead};
-use pdu::{FrameHead, HeaderAnswer, PduFields, pdu_row};
-use wire::{flag, lesser};
+use crate::answers::{Answered, Answers, Item, Stop};
+use crate::words::Words;
+use created_frame::{Builder, Push, handle_row, state_row};
+use pdu::{PduFields, pdu_row};
 
-const OPEN: u64 = 0x6f70656e_20202020;
+// S COMMAND ADDRESS: the state of an area, the index counter, and what the PDUs that are pushed have in common.
+#[derive(Clone, Copy)]
+pub(crate) struct Pushing {
+    pub(crate) state: Builder,
+    pub(crate) index: u8,
+    pub(crate) command: u8,
+    pub(crate) address: u32,
+}
 
-const PUSH: u64 = 0x70757368_20202020;
+impl<'a> Words<'a> {
+    // USED COUNT LAST
+    fn state(&mut self) -> Result<Builder, Stop> {
+        let used = usize::from(self.short()?);
+        let count = usize::from(self.short()?);
+        let last = usize::from(self.short()?);
+        Ok(Builder { used, count, last })
+    }
 
-const HANDLE: u64 = 0x68616e64_6c652020;
-
-const REST: u64 = 0x72657374_20202020;
-
-const CANPUSH: u64 = 0x63616e70_75736820;
-
-const HEADER: u64 = 0x68656164_65722020;
-
-const FRAME: u64 = 0x6672616d_65202020;
-
-// The request's shape; 0 of a name that is not here.
-pub(crate) fn shape(name: u64) -> u64 {
-    match name {
-        OPEN => 0xb,
-        PUSH => 0xb2221_14b2,
-        HANDLE => 0xb2221_14b2,
-        REST => 0xb2221_14b,
-        CANPUSH => 0x22222,
-        HEADER => 0x2,
-        FRAME => 0xb,
-        _ => 0,
+    // S COMMAND ADDRESS
+    pub(crate) fn pushing(&mut self) -> Result<Pushing, Stop> {
+        let state = self.state()?;
+        let index = self.byte()?;
+        let command = self.byte()?;
+        let address = self.long()?;
+        Ok(Pushing {
+            state,
+            index,
+            command,
+            address,
+        })
     }
 }
 
-pub(crate) fn answer(
-    name: u64,
-    nums: &[u64],
-    area: &mut [u8],
-    data: &[u8],
-    row: &mut [u64],
-) -> Reply {
-    match name {
-        OPEN => open_area(area, row),
-        PUSH => push(area, nums, data, row, 2),
-        HANDLE => push(area, nums, data, row, 4),
-        REST => rest(area, nums, data, row),
-        CANPUSH => can_push(nums, row),
-        HEADER => header(nums, area, row),
-        FRAME => of_frame(row, frame_reader::read_frame(area)),
-        _ => unreadable(row),
+impl Answers {
+    // S as it is after the call.
+    fn state(&mut self, state: Builder, index: u8) -> Answered {
+        self.record(&state_row(state))?;
+        self.numbers(&[u64::from(index)])
     }
 }
 
-// USED COUNT LAST, from the number at i on.
-pub(crate) fn state(nums: &[u64], i: u8) -> Builder {
-    let k = i as usize;
-    Builder {
-        used: at(nums, k) as usize,
-        count: at(nums, k + 1) as usize,
-        last: at(nums, k + 2) as usize,
+pub(crate) fn open(words: &mut Words, answers: &mut Answers) -> Answered {
+    let mut area = words.bytes()?;
+    words.end()?;
+    let opened = created_frame::open(&mut area);
+    answers.says_done(opened.map(|_| ()))?;
+    answers.record(&opened.map_or([0, 0, 0], state_row))?;
+    answers.lent(&area)
+}
+
+// A push, and the area behind it.
+fn pushed(words: &mut Words) -> Result<(Push, Vec<u8>), Stop> {
+    let mut area = words.bytes()?;
+    let Pushing {
+        state,
+        index,
+        command,
+        address,
+    } = words.pushing()?;
+    let data = words.bytes()?;
+    let over = usize::from(words.short()?);
+    words.end()?;
+    let push = created_frame::push_pdu(&mut area, state, index, command, address, &data, over);
+    Ok((push, area))
+}
+
+// The PDU's place and whole size.
+pub(crate) fn push(words: &mut Words, answers: &mut Answers) -> Answered {
+    let (push, area) = pushed(words)?;
+    answers.says(push.answer.map(|pdu| [pdu.start as u64, pdu.size as u64]))?;
+    answers.state(push.builder, push.next)?;
+    answers.lent(&area)
+}
+
+// The whole handle.
+pub(crate) fn handle(words: &mut Words, answers: &mut Answers) -> Answered {
+    let (push, area) = pushed(words)?;
+    answers.says(push.answer.map(handle_row))?;
+    answers.state(push.builder, push.next)?;
+    answers.lent(&area)
+}
+
+pub(crate) fn rest(words: &mut Words, answers: &mut Answers) -> Answered {
+    let mut area = words.bytes()?;
+    let Pushing {
+        state,
+        index,
+        command,
+        address,
+    } = words.pushing()?;
+    let data = words.bytes()?;
+    words.end()?;
+    let push = created_frame::push_pdu_slice_rest(&mut area, state, index, command, address, &data);
+    match push.answer {
+        Ok(Some((taken, pdu))) => answers.gives(&[
+            taken as u64,
+            pdu.start as u64,
+            pdu.size as u64,
+        ])?,
+        Ok(None) => answers.absent()?,
+        Err(x) => answers.refuses(x)?,
+    }
+    answers.state(push.builder, push.next)?;
+    answers.lent(&area)
+}
+
+pub(crate) fn can_push(words: &mut Words, answers: &mut Answers) -> Answered {
+    let size = usize::from(words.short()?);
+    let state = words.state()?;
+    let len = usize::from(words.short()?);
+    words.end()?;
+    answers.gives_one(created_frame::can_push_pdu_payload(size, state, len)?)
+}
+
+// The two bytes of a header that is refused are 0.
+pub(crate) fn header(words: &mut Words, answers: &mut Answers) -> Answered {
+    let used = usize::from(words.short()?);
+    words.end()?;
+    let header = pdu::frame_header(used);
+    answers.says_done(header.map(|_| ()))?;
+    answers.lent(&header.unwrap_or([0, 0]))
+}
+
+impl Item for PduFields {
+    fn say(self, answers: &mut Answers) -> Answered {
+        answers.numbers(&pdu_row(self))
     }
 }
 
-// S: a state with the index counter.
-fn with_state(r: Reply, row: &mut [u64], b: Builder, index: u8) -> Reply {
-    let r3 = with_record(r, row, &state_row(b));
-    with_record(r3, row, &[index as u64])
-}
-
-fn of_opened(row: &mut [u64], r: Opened) -> Reply {
-    match r {
-        Opened::Ready(b) => {
-            let xs = state_row(b);
-            with_record(gives_row(0), row, &xs)
-        }
-        Opened::No(x) => {
-            let xs = [0u64, 0, 0];
-            with_record(refuses(row, x), row, &xs)
-        }
-    }
-}
-
-fn open_area(area: &mut [u8], row: &mut [u64]) -> Reply {
-    let k = area.len();
-    let r = created_frame::open(area);
-    with_slice(of_opened(row, r), FIRST, k)
-}
-
-// The first so many numbers of the handle are said.
-fn of_pushed(row: &mut [u64], r: Pushed, shown: usize) -> Reply {
-    match r {
-        Pushed::Done(h) => {
-            let xs = handle_row(h);
-            put_all(row, 0, &xs);
-            gives_row(shown)
-        }
-        Pushed::No(x) => refuses(row, x),
-    }
-}
-
-fn of_push(row: &mut [u64], r: Push, shown: usize) -> Reply {
-    let answer = r.answer;
-    let b = r.builder;
-    with_state(of_pushed(row, answer, shown), row, b, r.next)
-}
-
-fn push(area: &mut [u8], nums: &[u64], data: &[u8], row: &mut [u64], shown: usize) -> Reply {
-    let k = area.len();
-    let r = created_frame::push_pdu(
-        area,
-        state(nums, 1),
-        byte(nums, 4),
-        byte(nums, 5),
-        long(nums, 6),
-        data,
-        at(nums, 8) as usize,
-    );
-    with_slice(of_push(row, r, shown), FIRST, k)
-}
-
-fn of_rest(row: &mut [u64], r: Rest) -> Reply {
-    match r {
-        Rest::Done { taken, pdu } => {
-            let xs = [taken as u64, pdu.start as u64, pdu.size as u64];
-            gives(row, &xs)
-        }
-        Rest::Absent => absent(),
-        Rest::No(x) => refuses(row, x),
-    }
-}
-
-fn of_rest_push(row: &mut [u64], r: RestPush) -> Reply {
-    let answer = r.answer;
-    let b = r.builder;
-    with_state(of_rest(row, answer), row, b, r.next)
-}
-
-fn rest(area: &mut [u8], nums: &[u64], data: &[u8], row: &mut [u64]) -> Reply {
-    let k = area.len();
-    let r = created_frame::push_pdu_slice_rest(
-        area,
-        state(nums, 1),
-        byte(nums, 4),
-        byte(nums, 5),
-        long(nums, 6),
-        data,
-    );
-    with_slice(of_rest_push(row, r), FIRST, k)
-}
-
-fn can_push(nums: &[u64], row: &mut [u64]) -> Reply {
-    let size = at(nums, 0) as usize;
-    let len = at(nums, 4) as usize;
-    match created_frame::can_push_pdu_payload(size, state(nums, 1), len) {
-        CanPush::Room(b) => gives_one(row, flag(b)),
-        CanPush::No(x) => refuses(row, x),
-    }
-}
-
-fn of_header(row: &mut [u64], r: HeaderAnswer) -> Reply {
-    match r {
-        HeaderAnswer::Header => gives_row(0),
-        HeaderAnswer::No(x) => refuses(row, x),
-    }
-}
-
-// The two bytes go to the front of a lent text.
-fn header(nums: &[u64], text: &mut [u8], row: &mut [u64]) -> Reply {
-    let r = pdu::frame_header(at(nums, 0) as usize);
-    let bytes = r.bytes;
-    let answer = r.answer;
-    wire::lay(text, 0, &bytes);
-    with_slice(of_header(row, answer), FIRST, 2)
-}
-
-fn put_pdu(row: &mut [u64], k: usize, p: PduFields) -> usize {
-    let xs = pdu_row(p);
-    put_all(row, k, &xs)
-}
-
-fn put_pdus(row: &mut [u64], k: usize, pdus: [PduFields; 170], n: usize) -> usize {
-    let count = lesser(n, 170);
-    let mut j = k;
-    let mut i = 0;
-    while i < count {
-        j = put_pdu(row, j, pdus[i]);
-        i += 1;
-    }
-    j
-}
-
-fn of_frame(row: &mut [u64], r: FrameRead) -> Reply {
-    let answer = r.answer;
-    let n = r.count;
-    let pdus = r.pdus;
-    match answer {
-        FrameAnswer::Frame => {
-            let k = put(row, 0, n as u64);
-            gives_row(put_pdus(row, k, pdus, n))
-        }
-        FrameAnswer::No(x) => refuses(row, x),
-    }
+pub(crate) fn frame(words: &mut Words, answers: &mut Answers) -> Answered {
+    let bytes = words.bytes()?;
+    words.end()?;
+    let read = frame_reader::read_frame(&bytes)?;
+    answers.gives_list(&read.pdus, read.count)
 }

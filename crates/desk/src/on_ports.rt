@@ -1,178 +1,139 @@
 // The requests on a port record.
-use crate::numbers::{at, byte, long, word};
-use crate::reply::{
-    FIRST, Reply, absent, gives_one, gives_row, refuses, unreadable, with_record, with_slice,
-};
-use crate::words::TOTALFROM;
-use held::after_assign;
-use ports::{
-    Assigned, Link, Port, PortAnswer, Ports, TextAnswer, TimeAnswer, Topology, TopologyAnswer,
-};
-use wire::flag;
+use crate::answers::{Answered, Answers, Stop};
+use crate::words::Words;
+use ports::{Port, Ports, Topology};
 
-const ENTRY: u64 = 0x656e7472_79202020;
+// More bytes than the text of any ports has.
+const TEXT_ROOM: usize = 64;
 
-const LAST: u64 = 0x6c617374_20202020;
+impl<'a> Words<'a> {
+    // One place of a port record, with its port's number. LINK 0 is none.
+    fn port(&mut self, number: u8) -> Result<Port, Stop> {
+        let active = self.active()?;
+        let dc_receive_time = self.long()?;
+        let link = self.short()?;
+        Ok(Port {
+            active,
+            dc_receive_time,
+            number,
+            downstream_to: if link == 0 { None } else { Some(link) },
+        })
+    }
 
-const TOPOLOGY: u64 = 0x746f706f_6c6f6779;
+    // P
+    fn ports(&mut self) -> Result<Ports, Stop> {
+        Ok(Ports([self.port(0)?, self.port(3)?, self.port(1)?, self.port(2)?]))
+    }
 
-const TOTAL: u64 = 0x746f7461_6c202020;
+    // P and no further word.
+    fn last_ports(&mut self) -> Result<Ports, Stop> {
+        let ports = self.ports()?;
+        self.end()?;
+        Ok(ports)
+    }
 
-const TIMETO: u64 = 0x74696d65_746f2020;
+    // P PORT
+    fn ports_and_port(&mut self) -> Result<(Ports, u8), Stop> {
+        let ports = self.ports()?;
+        let port = self.byte()?;
+        self.end()?;
+        Ok((ports, port))
+    }
 
-const BETWEEN: u64 = 0x62657477_65656e20;
-
-const LINKED: u64 = 0x6c696e6b_65642020;
-
-const ASSIGN: u64 = 0x61737369_676e2020;
-
-const TIMES: u64 = 0x74696d65_73202020;
-
-const DISPLAY: u64 = 0x64697370_6c617920;
-
-// The request's shape; 0 of a name that is not here.
-pub(crate) fn shape(name: u64) -> u64 {
-    match name {
-        ENTRY => 0xa42a42_a42a42,
-        LAST => 0xa42a42_a42a42,
-        TOPOLOGY => 0xa42a42_a42a42,
-        TOTAL => 0xa42a42_a42a42,
-        TOTALFROM => 0xa42a42_a42a42_1,
-        TIMETO => 0xa42a42_a42a42_1,
-        BETWEEN => 0xa42a42_a42a42_1,
-        LINKED => 0xa42a42_a42a42_2,
-        ASSIGN => 0xa42a42_a42a42_2,
-        TIMES => 0xa42a42_a42a42_4444,
-        DISPLAY => 0xa42a42_a42a42,
-        _ => 0,
+    // P LINK
+    fn ports_and_link(&mut self) -> Result<(Ports, u16), Stop> {
+        let ports = self.ports()?;
+        let link = self.short()?;
+        self.end()?;
+        Ok((ports, link))
     }
 }
 
-pub(crate) fn answer(name: u64, nums: &[u64], text: &mut [u8], row: &mut [u64]) -> Reply {
-    let p = ports(nums);
-    match name {
-        ENTRY => of_port(row, p.entry_port()),
-        LAST => of_port(row, p.last_port()),
-        TOPOLOGY => of_topology(row, p.topology()),
-        TOTAL => of_time(row, p.total_propagation_time()),
-        TOTALFROM => of_time(row, p.total_propagation_time_from(byte(nums, 12))),
-        TIMETO => of_time(row, p.propagation_time_to(byte(nums, 12))),
-        BETWEEN => of_time(row, p.intermediate_propagation_time_to(byte(nums, 12))),
-        LINKED => of_port(row, p.port_assigned_to(word(nums, 12))),
-        ASSIGN => of_assigned(row, after_assign(p, word(nums, 12))),
-        TIMES => times(p, nums, row),
-        DISPLAY => of_text(row, p.display(text)),
-        _ => unreadable(row),
+impl Answers {
+    // A port record as it is after the call.
+    fn ports(&mut self, ports: Ports) -> Answered {
+        self.record(&[])?;
+        for port in ports.0 {
+            let link = u64::from(port.downstream_to.unwrap_or(0));
+            self.numbers(&[
+                u64::from(port.active),
+                u64::from(port.dc_receive_time),
+                link,
+            ])?;
+        }
+        Ok(())
     }
 }
 
-// LINK 0 is none.
-fn link(x: u16) -> Link {
-    if x == 0 { Link::Free } else { Link::To(x) }
+pub(crate) fn entry(words: &mut Words, answers: &mut Answers) -> Answered {
+    let ports = words.last_ports()?;
+    answers.gives_one(ports.entry_port()?)
 }
 
-// The port with the time and the link that stand behind the number at i.
-fn port(p: Port, nums: &[u64], i: u8) -> Port {
-    let k = i as usize;
-    let downstream_to = link(word(nums, k + 2));
-    Port {
-        active: p.active,
-        dc_receive_time: long(nums, k + 1),
-        number: p.number,
-        downstream_to,
-    }
+pub(crate) fn last(words: &mut Words, answers: &mut Answers) -> Answered {
+    let ports = words.last_ports()?;
+    answers.gives_if_any(ports.last_port())
 }
 
-// P, the first twelve numbers.
-fn ports(nums: &[u64]) -> Ports {
-    let fresh = Ports::new(
-        at(nums, 0) == 1,
-        at(nums, 3) == 1,
-        at(nums, 6) == 1,
-        at(nums, 9) == 1,
-    );
-    let a = fresh.0;
-    Ports([
-        port(a[0], nums, 0),
-        port(a[1], nums, 3),
-        port(a[2], nums, 6),
-        port(a[3], nums, 9),
-    ])
-}
-
-fn link_number(l: Link) -> u64 {
-    match l {
-        Link::Free => 0,
-        Link::To(x) => x as u64,
-    }
-}
-
-// A port's three numbers behind the record's others.
-fn with_port(r: Reply, row: &mut [u64], p: Port) -> Reply {
-    let l = p.downstream_to;
-    let xs = [flag(p.active), p.dc_receive_time as u64, link_number(l)];
-    with_record(r, row, &xs)
-}
-
-fn with_ports(r: Reply, row: &mut [u64], p: Ports) -> Reply {
-    let a = p.0;
-    let r0 = with_port(r, row, a[0]);
-    let r3 = with_port(r0, row, a[1]);
-    let r1 = with_port(r3, row, a[2]);
-    with_port(r1, row, a[3])
-}
-
-fn of_port(row: &mut [u64], r: PortAnswer) -> Reply {
-    match r {
-        PortAnswer::At(n) => gives_one(row, n as u64),
-        PortAnswer::Absent => absent(),
-        PortAnswer::No(x) => refuses(row, x),
-    }
-}
-
-fn of_time(row: &mut [u64], r: TimeAnswer) -> Reply {
-    match r {
-        TimeAnswer::Time(t) => gives_one(row, t as u64),
-        TimeAnswer::Absent => absent(),
-        TimeAnswer::No(x) => refuses(row, x),
-    }
-}
-
-fn topology_number(t: Topology) -> u64 {
-    match t {
-        Topology::LineEnd => 1,
+pub(crate) fn topology(words: &mut Words, answers: &mut Answers) -> Answered {
+    let ports = words.last_ports()?;
+    // docs/DESK.md numbers them. There is no `From`: both the type and `u64` are of other crates.
+    answers.gives_one(match ports.topology()? {
+        Topology::LineEnd => 1u64,
         Topology::Passthrough => 2,
         Topology::Fork => 3,
         Topology::Cross => 4,
-    }
+    })
 }
 
-fn of_topology(row: &mut [u64], r: TopologyAnswer) -> Reply {
-    match r {
-        TopologyAnswer::Is(t) => gives_one(row, topology_number(t)),
-        TopologyAnswer::No(x) => refuses(row, x),
-    }
+pub(crate) fn total(words: &mut Words, answers: &mut Answers) -> Answered {
+    let ports = words.last_ports()?;
+    answers.gives_if_any(ports.total_propagation_time())
 }
 
-fn of_assigned(row: &mut [u64], r: Assigned) -> Reply {
-    let answer = r.answer;
-    let p = r.ports;
-    with_ports(of_port(row, answer), row, p)
+// `totalfrom` and `timeto` stay two functions: what they share are two calls, and a generic one would need a bound and a clause of four lines.
+pub(crate) fn total_from(words: &mut Words, answers: &mut Answers) -> Answered {
+    let (ports, entry) = words.ports_and_port()?;
+    answers.gives_if_any(ports.total_propagation_time_from(entry)?)
 }
 
-fn times(p: Ports, nums: &[u64], row: &mut [u64]) -> Reply {
-    let q = p.set_receive_times(
-        long(nums, 12),
-        long(nums, 13),
-        long(nums, 14),
-        long(nums, 15),
-    );
-    with_ports(gives_row(0), row, q)
+pub(crate) fn time_to(words: &mut Words, answers: &mut Answers) -> Answered {
+    let (ports, port) = words.ports_and_port()?;
+    answers.gives_if_any(ports.propagation_time_to(port)?)
 }
 
-fn of_text(row: &mut [u64], r: TextAnswer) -> Reply {
-    match r {
-        TextAnswer::Written(n) => with_slice(gives_row(0), FIRST, n),
-        TextAnswer::No(x) => refuses(row, x),
-    }
+pub(crate) fn between(words: &mut Words, answers: &mut Answers) -> Answered {
+    let (ports, port) = words.ports_and_port()?;
+    answers.gives_one(ports.intermediate_propagation_time_to(port)?)
+}
+
+pub(crate) fn linked(words: &mut Words, answers: &mut Answers) -> Answered {
+    let (ports, link) = words.ports_and_link()?;
+    answers.gives_if_any(ports.port_assigned_to(link)?)
+}
+
+pub(crate) fn assign(words: &mut Words, answers: &mut Answers) -> Answered {
+    let (mut ports, link) = words.ports_and_link()?;
+    answers.says_if_any(held::assign_next_downstream_port(&mut ports, link))?;
+    answers.ports(ports)
+}
+
+pub(crate) fn times(words: &mut Words, answers: &mut Answers) -> Answered {
+    let mut ports = words.ports()?;
+    let time_p0 = words.long()?;
+    let time_p3 = words.long()?;
+    let time_p1 = words.long()?;
+    let time_p2 = words.long()?;
+    words.end()?;
+    held::set_receive_times(&mut ports, time_p0, time_p3, time_p1, time_p2);
+    answers.gives(&[])?;
+    answers.ports(ports)
+}
+
+pub(crate) fn display(words: &mut Words, answers: &mut Answers) -> Answered {
+    let ports = words.last_ports()?;
+    let mut text = [0u8; TEXT_ROOM];
+    let count = ports.display(&mut text)?;
+    answers.gives(&[])?;
+    answers.lent(text.get(..count).unwrap_or(&text))
 }

@@ -1,165 +1,130 @@
-// The requests on the checksum and the EEPROM range.
-use crate::numbers::{chunk, long, word};
-use crate::reply::{
-    FIRST, Reply, SECOND, gives, gives_one, gives_row, refuses, unreadable, with_record, with_slice,
-};
-use eeprom::{Chunk, Exact, ExactRead, Pos, Range, RangeAnswer, Reading};
-use held::{ByteRead, ByteStep, CountStep, Counted, byte_in, write_in};
+// The requests on the checksum and the EEPROM range. A range that has an image keeps it inside.
+use crate::answers::{Answered, Answers, Stop};
+use crate::words::Words;
+use eeprom::Range;
+use held::{EepromRange, EepromRangeMut};
 use refusal::Refusal;
 
-const CRC: u64 = 0x63726320_20202020;
+pub(crate) fn range_row(range: Range) -> [u64; 2] {
+    [u64::from(range.byte_pos), u64::from(range.end)]
+}
 
-const NEW: u64 = 0x6e657720_20202020;
-
-const STARTAT: u64 = 0x73746172_74617420;
-
-const SKIP: u64 = 0x736b6970_20202020;
-
-const BYTE: u64 = 0x62797465_20202020;
-
-const READ: u64 = 0x72656164_20202020;
-
-const EXACT: u64 = 0x65786163_74202020;
-
-const WRITE: u64 = 0x77726974_65202020;
-
-// The request's shape; 0 of a name that is not here.
-pub(crate) fn shape(name: u64) -> u64 {
-    match name {
-        CRC => 0xb,
-        NEW => 0x22,
-        STARTAT => 0x22,
-        SKIP => 0x442,
-        BYTE => 0xbc44,
-        READ => 0xbc44b,
-        EXACT => 0xbc44b,
-        WRITE => 0xb44b,
-        _ => 0,
+impl<'a> Words<'a> {
+    // R: where the range stands, and where it ends.
+    fn range(&mut self) -> Result<Range, Stop> {
+        let byte_pos = self.long()?;
+        let end = self.long()?;
+        Ok(Range { byte_pos, end })
     }
 }
 
-pub(crate) fn answer(
-    name: u64,
-    nums: &[u64],
-    first: &mut [u8],
-    second: &mut [u8],
-    row: &mut [u64],
-) -> Reply {
-    match name {
-        CRC => gives_one(row, crc::crc(first) as u64),
-        NEW => of_range(row, Range::new(word(nums, 0), word(nums, 1))),
-        STARTAT => of_range(row, Range::start_at(word(nums, 0), word(nums, 1))),
-        SKIP => skip(range(nums, 0), word(nums, 2), row),
-        BYTE => byte(first, chunk(nums, 1), range(nums, 2), row),
-        READ => read(first, chunk(nums, 1), range(nums, 2), second, row),
-        EXACT => exact(first, chunk(nums, 1), range(nums, 2), second, row),
-        WRITE => write(first, range(nums, 1), second, row),
-        _ => unreadable(row),
+impl Answers {
+    // R as it is after the call.
+    fn range(&mut self, range: Range) -> Answered {
+        self.record(&range_row(range))
     }
 }
 
-// R, from the number at i on.
-fn range(nums: &[u64], i: u8) -> Range {
-    let k = i as usize;
-    Range {
-        byte_pos: long(nums, k),
-        end: long(nums, k + 1),
+// R over an image.
+fn over<'a>(image: &'a [u8], range: Range) -> EepromRange<'a> {
+    let Range { byte_pos, end } = range;
+    EepromRange {
+        image,
+        byte_pos,
+        end,
     }
 }
 
-pub(crate) fn of_range(row: &mut [u64], r: RangeAnswer) -> Reply {
-    match r {
-        RangeAnswer::Made(g) => {
-            let xs = [g.byte_pos as u64, g.end as u64];
-            gives(row, &xs)
-        }
-        RangeAnswer::No(x) => refuses(row, x),
-    }
+// R as it stands over its image.
+fn standing(range: EepromRange) -> Range {
+    let EepromRange { byte_pos, end, .. } = range;
+    Range { byte_pos, end }
 }
 
-fn with_range(r: Reply, row: &mut [u64], g: Range) -> Reply {
-    let xs = [g.byte_pos as u64, g.end as u64];
-    with_record(r, row, &xs)
+pub(crate) fn crc(words: &mut Words, answers: &mut Answers) -> Answered {
+    let bytes = words.bytes()?;
+    words.end()?;
+    answers.gives_one(crc::crc(&bytes))
 }
 
-// Nothing is said, but the record is there.
-fn gives_range(row: &mut [u64], g: Range) -> Reply {
-    with_range(gives_row(0), row, g)
+// A range by the word at which it starts and its length.
+fn made<F: FnOnce(u16, u16) -> Result<Range, Refusal>>(
+    words: &mut Words,
+    answers: &mut Answers,
+    make: F,
+) -> Answered
+    requires { F.IsAlwaysCallable make }
+{
+    let start = words.short()?;
+    let len = words.short()?;
+    words.end()?;
+    answers.gives(&range_row(make(start, len)?))
 }
 
-fn one_and_range(row: &mut [u64], x: u64, g: Range) -> Reply {
-    with_range(gives_one(row, x), row, g)
+// The length in words.
+pub(crate) fn new(words: &mut Words, answers: &mut Answers) -> Answered {
+    made(words, answers, |start, len| Range::new(start, len))
 }
 
-fn refuses_range(row: &mut [u64], x: Refusal, g: Range) -> Reply {
-    with_range(refuses(row, x), row, g)
+// The length in bytes.
+pub(crate) fn start_at(words: &mut Words, answers: &mut Answers) -> Answered {
+    made(words, answers, |start, len| Range::start_at(start, len))
 }
 
-fn skip(g: Range, n: u16, row: &mut [u64]) -> Reply {
-    match g.skip_ahead_bytes(n) {
-        RangeAnswer::Made(after) => gives_range(row, after),
-        RangeAnswer::No(x) => refuses_range(row, x, g),
-    }
+// The range alone: no image is asked for.
+pub(crate) fn skip(words: &mut Words, answers: &mut Answers) -> Answered {
+    let range = words.range()?;
+    let count = words.short()?;
+    words.end()?;
+    let mut range = over(&[], range);
+    answers.says_done(range.skip_ahead_bytes(count))?;
+    answers.range(standing(range))
 }
 
-fn of_byte(row: &mut [u64], s: ByteStep, end: Pos) -> Reply {
-    let answer = s.answer;
-    let after = Range {
-        byte_pos: s.byte_pos,
+pub(crate) fn byte(words: &mut Words, answers: &mut Answers) -> Answered {
+    let (image, chunk) = words.image()?;
+    let range = words.range()?;
+    words.end()?;
+    let mut range = over(&image, range);
+    answers.says_one(range.read_byte(chunk))?;
+    answers.range(standing(range))
+}
+
+pub(crate) fn read(words: &mut Words, answers: &mut Answers) -> Answered {
+    let (image, chunk) = words.image()?;
+    let range = words.range()?;
+    let mut buf = words.bytes()?;
+    words.end()?;
+    let mut range = over(&image, range);
+    answers.says_one(range.read(chunk, &mut buf))?;
+    answers.range(standing(range))?;
+    answers.lent(&buf)
+}
+
+pub(crate) fn exact(words: &mut Words, answers: &mut Answers) -> Answered {
+    let (image, chunk) = words.image()?;
+    let range = words.range()?;
+    let mut buf = words.bytes()?;
+    words.end()?;
+    let mut range = over(&image, range);
+    answers.says_done(range.read_exact(chunk, &mut buf))?;
+    answers.range(standing(range))?;
+    answers.lent(&buf)
+}
+
+pub(crate) fn write(words: &mut Words, answers: &mut Answers) -> Answered {
+    let mut image = words.bytes()?;
+    let Range { byte_pos, end } = words.range()?;
+    let bytes = words.bytes()?;
+    words.end()?;
+    let mut range = EepromRangeMut {
+        image: &mut image,
+        byte_pos,
         end,
     };
-    match answer {
-        ByteRead::Byte(b) => one_and_range(row, b as u64, after),
-        ByteRead::No(x) => refuses_range(row, x, after),
-    }
-}
-
-fn byte(image: &[u8], chunk: Chunk, g: Range, row: &mut [u64]) -> Reply {
-    of_byte(row, byte_in(image, g.byte_pos, g.end, chunk), g.end)
-}
-
-fn of_reading(row: &mut [u64], r: Reading, g: Range) -> Reply {
-    match r {
-        Reading::Took(n, after) => one_and_range(row, n as u64, after),
-        Reading::No(x) => refuses_range(row, x, g),
-    }
-}
-
-fn read(image: &[u8], chunk: Chunk, g: Range, buf: &mut [u8], row: &mut [u64]) -> Reply {
-    let k = buf.len();
-    let r = g.read(image, chunk, buf);
-    with_slice(of_reading(row, r, g), SECOND, k)
-}
-
-fn of_exact(row: &mut [u64], r: ExactRead) -> Reply {
-    let after = r.range;
-    let answer = r.answer;
-    match answer {
-        Exact::Full => gives_range(row, after),
-        Exact::No(x) => refuses_range(row, x, after),
-    }
-}
-
-fn exact(image: &[u8], chunk: Chunk, g: Range, buf: &mut [u8], row: &mut [u64]) -> Reply {
-    let k = buf.len();
-    let r = g.read_exact(image, chunk, buf);
-    with_slice(of_exact(row, r), SECOND, k)
-}
-
-fn of_writing(row: &mut [u64], s: CountStep, end: Pos) -> Reply {
-    let answer = s.answer;
-    let after = Range {
-        byte_pos: s.byte_pos,
-        end,
-    };
-    match answer {
-        Counted::Bytes(n) => one_and_range(row, n as u64, after),
-        Counted::No(x) => refuses_range(row, x, after),
-    }
-}
-
-fn write(image: &mut [u8], g: Range, bytes: &[u8], row: &mut [u64]) -> Reply {
-    let k = image.len();
-    let s = write_in(image, g.byte_pos, g.end, bytes);
-    with_slice(of_writing(row, s, g.end), FIRST, k)
+    let written = range.write(&bytes);
+    let byte_pos = range.byte_pos;
+    answers.says_one(written)?;
+    answers.range(Range { byte_pos, end })?;
+    answers.lent(&image)
 }

@@ -1,174 +1,70 @@
 // The requests that read the SII: categories, the fixed area, General; and the one that sets the alias.
-use crate::numbers::{chunk, word};
-use crate::reply::{
-    FIRST, Reply, absent, gives, gives_one, gives_row, refuses, unreadable, with_slice,
-};
-use category::{Found, InsideAnswer};
-use eeprom::Chunk;
-use sii::{
-    AliasAnswer, AliasSet, GeneralAnswer, IdentityAnswer, MailboxAnswer, PortsAnswer, SizeAnswer,
-    WordAnswer, general_row, has_mailbox, identity_row, mailbox_row, ports_row,
-};
-use wire::flag;
+use crate::answers::{Answered, Answers};
+use crate::on_range::range_row;
+use crate::words::Words;
+use sii::{general_row, has_mailbox, identity_row, mailbox_row, ports_row};
 
-const CATEGORY: u64 = 0x63617465_676f7279;
-
-const INSIDE: u64 = 0x696e7369_64652020;
-
-const ALIAS: u64 = 0x616c6961_73202020;
-
-const SIZE: u64 = 0x73697a65_20202020;
-
-const SETALIAS: u64 = 0x73657461_6c696173;
-
-const IDENTITY: u64 = 0x6964656e_74697479;
-
-const MAILBOX: u64 = 0x6d61696c_626f7820;
-
-const HASMAIL: u64 = 0x6861736d_61696c20;
-
-const PHYSPORT: u64 = 0x70687973_706f7274;
-
-const PHYSADDR: u64 = 0x70687973_61646472;
-
-const GENERAL: u64 = 0x67656e65_72616c20;
-
-// The request's shape; 0 of a name that is not here.
-pub(crate) fn shape(name: u64) -> u64 {
-    match name {
-        CATEGORY => 0xbc2,
-        INSIDE => 0xbc2,
-        ALIAS => 0xbc,
-        SIZE => 0xbc,
-        SETALIAS => 0xb2,
-        IDENTITY => 0xbc,
-        MAILBOX => 0xbc,
-        HASMAIL => 0xbc,
-        GENERAL => 0xbc,
-        PHYSPORT => 0xbc,
-        PHYSADDR => 0xbc,
-        _ => 0,
+pub(crate) fn category(words: &mut Words, answers: &mut Answers) -> Answered {
+    let (image, chunk) = words.image()?;
+    let number = words.short()?;
+    words.end()?;
+    match category::category(&image, chunk, number)? {
+        Some(found) => answers.gives(&range_row(found)),
+        None => answers.absent(),
     }
 }
 
-pub(crate) fn answer(name: u64, nums: &[u64], image: &mut [u8], row: &mut [u64]) -> Reply {
-    match name {
-        CATEGORY => of_found(
-            row,
-            category::category(image, chunk(nums, 1), word(nums, 2)),
-        ),
-        INSIDE => of_inside(
-            row,
-            category::category_inside(image, chunk(nums, 1), word(nums, 2)),
-        ),
-        ALIAS => of_alias(row, sii::station_alias(image, chunk(nums, 1))),
-        SIZE => of_size(row, sii::size(image, chunk(nums, 1))),
-        SETALIAS => set_alias(image, word(nums, 1), row),
-        IDENTITY => of_identity(row, sii::identity(image, chunk(nums, 1))),
-        MAILBOX => of_mailbox(row, sii::mailbox_config(image, chunk(nums, 1))),
-        HASMAIL => of_has_mailbox(row, sii::mailbox_config(image, chunk(nums, 1))),
-        PHYSPORT => of_ports(row, sii::physical_ports(image, chunk(nums, 1))),
-        PHYSADDR => of_word(row, sii::physical_memory_address(image, chunk(nums, 1))),
-        GENERAL => of_general(row, sii::general(image, chunk(nums, 1))),
-        _ => unreadable(row),
-    }
+pub(crate) fn inside(words: &mut Words, answers: &mut Answers) -> Answered {
+    let (image, chunk) = words.image()?;
+    let number = words.short()?;
+    words.end()?;
+    answers.gives_one(category::category_inside(&image, chunk, number)?)
 }
 
-fn of_found(row: &mut [u64], r: Found) -> Reply {
-    match r {
-        Found::At(g) => {
-            let xs = [g.byte_pos as u64, g.end as u64];
-            gives(row, &xs)
-        }
-        Found::Absent => absent(),
-        Found::No(x) => refuses(row, x),
-    }
+pub(crate) fn alias(words: &mut Words, answers: &mut Answers) -> Answered {
+    let (image, chunk) = words.last_image()?;
+    answers.gives_one(sii::station_alias(&image, chunk)?)
 }
 
-fn of_inside(row: &mut [u64], r: InsideAnswer) -> Reply {
-    match r {
-        InsideAnswer::Inside(b) => gives_one(row, flag(b)),
-        InsideAnswer::No(x) => refuses(row, x),
-    }
+pub(crate) fn size(words: &mut Words, answers: &mut Answers) -> Answered {
+    let (image, chunk) = words.last_image()?;
+    answers.gives_one(sii::size(&image, chunk)?)
 }
 
-fn of_alias(row: &mut [u64], r: AliasAnswer) -> Reply {
-    match r {
-        AliasAnswer::Alias(a) => gives_one(row, a as u64),
-        AliasAnswer::No(x) => refuses(row, x),
-    }
+pub(crate) fn set_alias(words: &mut Words, answers: &mut Answers) -> Answered {
+    let mut image = words.bytes()?;
+    let alias = words.short()?;
+    words.end()?;
+    answers.says_done(sii::set_station_alias(&mut image, alias))?;
+    answers.lent(&image)
 }
 
-fn of_size(row: &mut [u64], r: SizeAnswer) -> Reply {
-    match r {
-        SizeAnswer::Bytes(n) => gives_one(row, n as u64),
-        SizeAnswer::No(x) => refuses(row, x),
-    }
+pub(crate) fn identity(words: &mut Words, answers: &mut Answers) -> Answered {
+    let (image, chunk) = words.last_image()?;
+    answers.gives(&identity_row(sii::identity(&image, chunk)?))
 }
 
-fn of_set(row: &mut [u64], r: AliasSet) -> Reply {
-    match r {
-        AliasSet::Done => gives_row(0),
-        AliasSet::No(x) => refuses(row, x),
-    }
+pub(crate) fn mailbox(words: &mut Words, answers: &mut Answers) -> Answered {
+    let (image, chunk) = words.last_image()?;
+    answers.gives(&mailbox_row(sii::mailbox_config(&image, chunk)?))
 }
 
-fn set_alias(image: &mut [u8], alias: u16, row: &mut [u64]) -> Reply {
-    let k = image.len();
-    let r = sii::set_station_alias(image, alias);
-    with_slice(of_set(row, r), FIRST, k)
+pub(crate) fn is_with_mailbox(words: &mut Words, answers: &mut Answers) -> Answered {
+    let (image, chunk) = words.last_image()?;
+    answers.gives_one(has_mailbox(sii::mailbox_config(&image, chunk)?))
 }
 
-fn of_identity(row: &mut [u64], r: IdentityAnswer) -> Reply {
-    match r {
-        IdentityAnswer::Is(d) => {
-            let xs = identity_row(d);
-            gives(row, &xs)
-        }
-        IdentityAnswer::No(x) => refuses(row, x),
-    }
+pub(crate) fn general(words: &mut Words, answers: &mut Answers) -> Answered {
+    let (image, chunk) = words.last_image()?;
+    answers.gives(&general_row(sii::general(&image, chunk)?))
 }
 
-fn of_mailbox(row: &mut [u64], r: MailboxAnswer) -> Reply {
-    match r {
-        MailboxAnswer::Is(m) => {
-            let xs = mailbox_row(m);
-            gives(row, &xs)
-        }
-        MailboxAnswer::No(x) => refuses(row, x),
-    }
+pub(crate) fn physical_ports(words: &mut Words, answers: &mut Answers) -> Answered {
+    let (image, chunk) = words.last_image()?;
+    answers.gives(&ports_row(sii::physical_ports(&image, chunk)?))
 }
 
-fn of_has_mailbox(row: &mut [u64], r: MailboxAnswer) -> Reply {
-    match r {
-        MailboxAnswer::Is(m) => gives_one(row, flag(has_mailbox(m))),
-        MailboxAnswer::No(x) => refuses(row, x),
-    }
-}
-
-fn of_ports(row: &mut [u64], r: PortsAnswer) -> Reply {
-    match r {
-        PortsAnswer::Is(p) => {
-            let xs = ports_row(p);
-            gives(row, &xs)
-        }
-        PortsAnswer::No(x) => refuses(row, x),
-    }
-}
-
-fn of_word(row: &mut [u64], r: WordAnswer) -> Reply {
-    match r {
-        WordAnswer::Word(n) => gives_one(row, n as u64),
-        WordAnswer::No(x) => refuses(row, x),
-    }
-}
-
-fn of_general(row: &mut [u64], r: GeneralAnswer) -> Reply {
-    match r {
-        GeneralAnswer::Is(g) => {
-            let xs = general_row(g);
-            gives(row, &xs)
-        }
-        GeneralAnswer::No(x) => refuses(row, x),
-    }
+pub(crate) fn physical_address(words: &mut Words, answers: &mut Answers) -> Answered {
+    let (image, chunk) = words.last_image()?;
+    answers.gives_one(sii::physical_memory_address(&image, chunk)?)
 }

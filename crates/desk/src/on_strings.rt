@@ -1,48 +1,45 @@
 // The requests for strings, the device's name and its description.
-use crate::numbers::{byte, chunk};
-use crate::reply::{Reply, SECOND, absent, gives_one, refuses, unreadable, with_slice};
-use strings::StringAnswer;
+use crate::answers::{Answered, Answers};
+use crate::words::Words;
+use eeprom::Chunk;
+use refusal::Refusal;
 
-const STRING: u64 = 0x73747269_6e672020;
-
-const NAME: u64 = 0x6e616d65_20202020;
-
-const DESC: u64 = 0x64657363_20202020;
-
-// The request's shape; 0 of a name that is not here.
-pub(crate) fn shape(name: u64) -> u64 {
-    match name {
-        STRING => 0xbc1b,
-        NAME => 0xbcb,
-        DESC => 0xbcb,
-        _ => 0,
-    }
+pub(crate) fn string(words: &mut Words, answers: &mut Answers) -> Answered {
+    let (image, chunk) = words.image()?;
+    let index = words.byte()?;
+    let mut room = words.bytes()?;
+    words.end()?;
+    answers.says_if_any(strings::find_string(&image, chunk, index, &mut room))?;
+    answers.lent(&room)
 }
 
-fn of_string(row: &mut [u64], r: StringAnswer) -> Reply {
-    match r {
-        StringAnswer::Length(n) => gives_one(row, n as u64),
-        StringAnswer::Absent => absent(),
-        StringAnswer::No(x) => refuses(row, x),
-    }
+// A text that the image alone names, into the room that is lent.
+fn named<F: FnOnce(&[u8], Chunk, &mut [u8]) -> Result<Option<u16>, Refusal>>(
+    words: &mut Words,
+    answers: &mut Answers,
+    find: F,
+) -> Answered
+    requires { F.IsAlwaysCallable find }
+{
+    let (image, chunk) = words.image()?;
+    let mut room = words.bytes()?;
+    words.end()?;
+    answers.says_if_any(find(&image, chunk, &mut room))?;
+    answers.lent(&room)
 }
 
-fn asked(name: u64, nums: &[u64], image: &[u8], room: &mut [u8]) -> StringAnswer {
-    match name {
-        STRING => strings::find_string(image, chunk(nums, 1), byte(nums, 2), room),
-        NAME => strings::device_name(image, chunk(nums, 1), room),
-        _ => strings::device_description(image, chunk(nums, 1), room),
-    }
+pub(crate) fn name(words: &mut Words, answers: &mut Answers) -> Answered {
+    named(
+        words,
+        answers,
+        |image, chunk, room| strings::device_name(image, chunk, room),
+    )
 }
 
-pub(crate) fn answer(
-    name: u64,
-    nums: &[u64],
-    image: &[u8],
-    room: &mut [u8],
-    row: &mut [u64],
-) -> Reply {
-    let k = room.len();
-    let r = asked(name, nums, image, room);
-    with_slice(of_string(row, r), SECOND, k)
+pub(crate) fn description(words: &mut Words, answers: &mut Answers) -> Answered {
+    named(
+        words,
+        answers,
+        |image, chunk, room| strings::device_description(image, chunk, room),
+    )
 }

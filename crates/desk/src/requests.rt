@@ -1,158 +1,85 @@
-// A line's answer: its request by name, its words by the request's shape, then the deed, then the text.
-use crate::numbers::{front, front_mut};
-use crate::reply::Reply;
+// A line's answer: its request by name.
+use crate::answers::{Answered, Answers, Stop, UNREADABLE};
+use crate::words::{LINE_MOST, Words};
 use crate::{
     on_frames, on_lists, on_ports, on_range, on_received, on_setup, on_sii, on_spread, on_strings,
-    reply, words,
 };
+use std::alloc::{AllocError, Global};
 
-// The requests by topic.
-const RANGE: u8 = 1;
-
-const SII: u8 = 2;
-
-const STRINGS: u8 = 3;
-
-const PORTS: u8 = 4;
-
-const FRAMES: u8 = 5;
-
-const SPREADING: u8 = 6;
-
-const LISTS: u8 = 7;
-
-const SETUP: u8 = 8;
-
-#[derive(Clone, Copy)]
-struct Request {
-    topic: u8,
-    shape: u64,
+// The answer to a line, behind those that wait.
+pub(crate) fn answer(alloc: Global, line: &[u8], answers: &mut Answers) -> Result<(), AllocError> {
+    match asked(alloc, line, answers) {
+        Ok(()) => {}
+        Err(Stop::Refuses(x)) => answers.say_refusal(x)?,
+        Err(Stop::NoMemory(e)) => return Err(e),
+    }
+    answers.end_line()
 }
 
-// The topic that has a request of this name, and the request's shape; 0 of a name that no request has.
-fn asked(name: u64) -> Request {
-    let range = on_range::shape(name);
-    if range != 0 {
-        return Request {
-            topic: RANGE,
-            shape: range,
-        };
+// A line that is too long can't be read.
+fn asked(alloc: Global, line: &[u8], answers: &mut Answers) -> Answered {
+    if line.len() > LINE_MOST {
+        return Err(UNREADABLE);
     }
-    let sii = on_sii::shape(name);
-    if sii != 0 {
-        return Request {
-            topic: SII,
-            shape: sii,
-        };
-    }
-    let strings = on_strings::shape(name);
-    if strings != 0 {
-        return Request {
-            topic: STRINGS,
-            shape: strings,
-        };
-    }
-    let lists = on_lists::shape(name);
-    if lists != 0 {
-        return Request {
-            topic: LISTS,
-            shape: lists,
-        };
-    }
-    let setup = on_setup::shape(name);
-    if setup != 0 {
-        return Request {
-            topic: SETUP,
-            shape: setup,
-        };
-    }
-    let ports = on_ports::shape(name);
-    if ports != 0 {
-        return Request {
-            topic: PORTS,
-            shape: ports,
-        };
-    }
-    let frames = on_frames::shape(name);
-    if frames != 0 {
-        return Request {
-            topic: FRAMES,
-            shape: frames,
-        };
-    }
-    Request {
-        topic: SPREADING,
-        shape: on_spread::shape(name),
-    }
+    let mut words = Words::behind_name(alloc, line);
+    by_name(lines::word(line, 0), &mut words, answers)
 }
 
-// What a request says. The lent slices are its BYTES in their order.
-fn act(
-    topic: u8,
-    name: u64,
-    nums: &[u64],
-    first: &mut [u8],
-    second: &mut [u8],
-    row: &mut [u64],
-) -> Reply {
-    match topic {
-        RANGE => on_range::answer(name, nums, first, second, row),
-        SII => on_sii::answer(name, nums, first, row),
-        STRINGS => on_strings::answer(name, nums, first, second, row),
-        LISTS => on_lists::answer(name, nums, first, row),
-        SETUP => on_setup::answer(name, nums, first, row),
-        PORTS => on_ports::answer(name, nums, first, row),
-        FRAMES => on_frames::answer(name, nums, first, second, row),
-        _ => on_spread::answer(nums, first, second, row),
-    }
-}
-
-// What a line says.
-fn reply_to(
-    line: &[u8],
-    nums: &mut [u64],
-    first: &mut [u8],
-    second: &mut [u8],
-    row: &mut [u64],
-) -> Reply {
-    let name = words::name(lines::word(line, 0));
-    if name == on_received::RECEIVED {
-        return on_received::reply_to(line, nums, first, second, row);
-    }
-    let q = asked(name);
-    let r = words::read(line, q.shape, nums, first, second);
-    if r.readable {
-        let n = r.first;
-        let m = r.second;
-        act(
-            q.topic,
-            name,
-            nums,
-            front_mut(first, n),
-            front_mut(second, m),
-            row,
-        )
-    } else {
-        reply::unreadable(row)
-    }
-}
-
-// The answer to a line of n bytes goes to out from k on; a line that is longer than its buffer can't be read.
-pub(crate) fn answer(
-    line: &[u8],
-    n: usize,
-    first: &mut [u8],
-    second: &mut [u8],
-    nums: &mut [u64],
-    row: &mut [u64],
-    out: &mut [u8],
-    k: usize,
-) -> usize {
-    if n <= line.len() {
-        let r = reply_to(front(line, n), nums, first, second, row);
-        reply::print(out, k, r, row, first, second)
-    } else {
-        let r = reply::unreadable(row);
-        reply::print(out, k, r, row, first, second)
+// The requests, in the order of docs/DESK.md.
+fn by_name(name: &[u8], words: &mut Words, answers: &mut Answers) -> Answered {
+    match name {
+        b"crc" => on_range::crc(words, answers),
+        b"new" => on_range::new(words, answers),
+        b"startat" => on_range::start_at(words, answers),
+        b"skip" => on_range::skip(words, answers),
+        b"byte" => on_range::byte(words, answers),
+        b"read" => on_range::read(words, answers),
+        b"exact" => on_range::exact(words, answers),
+        b"write" => on_range::write(words, answers),
+        b"category" => on_sii::category(words, answers),
+        b"inside" => on_sii::inside(words, answers),
+        b"alias" => on_sii::alias(words, answers),
+        b"size" => on_sii::size(words, answers),
+        b"setalias" => on_sii::set_alias(words, answers),
+        b"identity" => on_sii::identity(words, answers),
+        b"mailbox" => on_sii::mailbox(words, answers),
+        b"hasmail" => on_sii::is_with_mailbox(words, answers),
+        b"general" => on_sii::general(words, answers),
+        b"physport" => on_sii::physical_ports(words, answers),
+        b"physaddr" => on_sii::physical_address(words, answers),
+        b"sms" => on_lists::sync_managers(words, answers),
+        b"usages" => on_lists::usages(words, answers),
+        b"fmmus" => on_lists::fmmus(words, answers),
+        b"fmmuex" => on_lists::fmmu_mappings(words, answers),
+        b"pdos" => on_lists::pdos(words, answers),
+        b"pdi" => on_setup::pdi(words, answers),
+        b"bootmail" => on_setup::bootstrap(words, answers),
+        b"version" => on_setup::version(words, answers),
+        b"checksum" => on_setup::checksum(words, answers),
+        b"clocks" => on_setup::clocks(words, answers),
+        b"string" => on_strings::string(words, answers),
+        b"name" => on_strings::name(words, answers),
+        b"desc" => on_strings::description(words, answers),
+        b"entry" => on_ports::entry(words, answers),
+        b"last" => on_ports::last(words, answers),
+        b"topology" => on_ports::topology(words, answers),
+        b"total" => on_ports::total(words, answers),
+        b"timeto" => on_ports::time_to(words, answers),
+        b"between" => on_ports::between(words, answers),
+        b"totalfrom" => on_ports::total_from(words, answers),
+        b"linked" => on_ports::linked(words, answers),
+        b"assign" => on_ports::assign(words, answers),
+        b"times" => on_ports::times(words, answers),
+        b"display" => on_ports::display(words, answers),
+        b"open" => on_frames::open(words, answers),
+        b"push" => on_frames::push(words, answers),
+        b"handle" => on_frames::handle(words, answers),
+        b"rest" => on_frames::rest(words, answers),
+        b"canpush" => on_frames::can_push(words, answers),
+        b"header" => on_frames::header(words, answers),
+        b"frame" => on_frames::frame(words, answers),
+        b"received" => on_received::received(words, answers),
+        b"spread" => on_spread::spread(words, answers),
+        _ => Err(UNREADABLE),
     }
 }

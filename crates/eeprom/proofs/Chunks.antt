@@ -2,8 +2,8 @@
 use Prim.Native.Nat.{ℕ, ◌+◌, ◌-◌, ◌*◌, ◌/◌, ◌%◌, ◌≤◌, ◌<◌}
 use native.Mathlib.Omega.{arith}
 use mathlib.Core.Path.{◌≡◌, ap, ◌∙◌}
-use mathlib.Core.List.{List, ◌++◌, append_assoc}
-use lib.ListN.{length, take, drop, replicate}
+use mathlib.Core.List.{List, ◌++◌, append_assoc, append-nil}
+use lib.ListN.{length, take, drop, drop_of_length-le, replicate}
 use lib.Seq.{take_at, drop_at}
 use Rattle.wire.specs.Bytes.{byte_at, le16, le32, span, filled, overlay, laid}
 use Rattle.wire.proofs.Laws.{length-span, span-add, laid-whole}
@@ -11,6 +11,11 @@ use Rattle.wire.proofs.Stretch.{byte-span}
 use Rattle.eeprom.specs.Image.{chunk_of, width_of}
 use Rattle.eeprom.specs.declared.Chunk.{Chunk}
 use Rattle.eeprom.specs.declared.Chunk.TheVariants as chunk
+
+-- a buffer that is filled to its end
+pub filled_all : (s : List ℕ) (i n : ℕ) (buf : List ℕ) → length buf ≤ n → filled s i n buf ≡ span s i n
+unfolding filled
+filled_all s i n buf h = rw (drop_of_length-le buf h, append-nil)
 
 -- a byte of a chunk is the image's
 chunk_byte : (image : List ℕ) (w n k : ℕ) → k < n → byte_at (chunk_of image w n) k ≡ byte_at image (2 * w + k)

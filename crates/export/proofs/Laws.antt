@@ -4,14 +4,16 @@ use mathlib.Core.Path.{◌≡◌, refl, sym, ap, ◌∙◌}
 use native.Mathlib.Omega.{arith}
 use lib.ListN.{length, take, length-take}
 use mathlib.Core.Bool.{Bool, true, false}
-use mathlib.Core.List.{List, []}
+use mathlib.Core.List.{List, [], ◌∷◌, ◌++◌}
 use borrow.Author.Tests.{lt-ltb, le-ltb}
-use Rattle.refusal.specs.Said.{Said, absent, refuses, pick}
+use Rattle.refusal.specs.Said.{Said, gives, absent, refuses, pick}
 use Rattle.created_frame.specs.declared.Builder.{Builder}
 use Rattle.pdu.specs.Pdu.{frame_header_bytes}
 use Rattle.pdu.specs.Answers.{header_said}
-use Rattle.wire.specs.Bytes.{bit}
+use Rattle.wire.specs.Bytes.{bit, laid}
 use Rattle.wire.proofs.Laws.{laid_none}
+use Rattle.created_frame.specs.Answers.{state_values}
+use Rattle.export.proofs.Flat.{laid_on}
 use Rattle.export.specs.Told.{code_of, row_over, state_over, bytes_over, header_told}
 
 -- what says the same is told the same
@@ -43,16 +45,6 @@ pub header-room : (used room : ℕ) → frame_header_bytes ≤ room → header_s
 unfolding header_told
 header-room used room h = rw (le-ltb room frame_header_bytes h)
 
--- absent: the row stays
-pub told-absent : (t : Said) (row : List ℕ) → absent ≡ t → (255 ≡ code_of t) × (row ≡ row_over row t)
-unfolding row_over
-told-absent t row e = told absent t 255 row row e (refl, sym (laid_none row 0))
-
--- a test as a number, in either crate's words
-pub bit-pick : (t : Bool) → bit t ≡ pick t 1 0
-bit-pick true = refl
-bit-pick false = refl
-
 -- ---- a refusal
 
 -- its values are no more than its row has
@@ -61,3 +53,11 @@ few_values n xs vs c e =
     let a : length (take n xs) ≡ length vs = ap length e in
     let b : length (take n xs) ≡ min n (length xs) = length-take n xs in
     omega arith
+
+-- ---- a push
+
+-- what is given is laid behind the state and the next index
+pub state_laid : (row before after kept vs : List ℕ) (b : Builder) (next : ℕ) → kept ≡ state_values b ++ next ∷ [] → before ≡ laid row 0 kept → after ≡ laid before 4 vs
+    → after ≡ state_over row b next (gives vs)
+unfolding state_over
+state_laid row before after kept vs b next k e f = f ∙ rw (e, k) (laid_on row 0 (state_values b ++ next ∷ []) vs)

@@ -1,22 +1,19 @@
 -- What a frame's PDUs leave in a row: no frame has more PDUs than the reader's list, and their count and fields are laid one behind the other.
 use Prim.Native.Nat.{ℕ, ◌+◌, ◌-◌, ◌%◌, ◌≤◌}
 use native.Mathlib.Omega.{arith}
-use mathlib.Core.Path.{◌≡◌, sym, ◌∙◌}
+use mathlib.Core.Path.{◌≡◌, refl, sym}
 use mathlib.Core.Bool.{Bool, true, false}
-use mathlib.Core.List.{List, [], ◌∷◌, flat_map}
+use mathlib.Core.List.{List, [], ◌∷◌}
 use lib.ListN.{length, take, length-append, length-map}
 use lib.Seq.{take_at}
 use lib.Dec.{eqb}
 use Rattle.refusal.specs.Said.{pick}
-use Rattle.wire.specs.Bytes.{le16, laid}
+use Rattle.wire.specs.Bytes.{le16}
 use Rattle.pdu.specs.declared.PduFields.{PduFields}
 use Rattle.pdu.specs.Pdu.{pdus_most}
-use Rattle.pdu.specs.Answers.{pdu_values}
 use Rattle.pdu.specs.Read.{Places, bad, good, headed, places_at, frame_of, seen_at, seen_all, read_of, pdus_of}
 use Rattle.pdu.proofs.Laws.{Few, few-places}
 use Rattle.frame_reader.specs.Answers.{unused, padded}
-use Rattle.export.specs.Told.{pdus_over}
-use Rattle.export.proofs.Flat.{laid_on}
 
 few_seen : (s : List ℕ) (R : Places) → Few R 2047 → length (pdus_of (seen_all s R)) ≤ pdus_most
 unfolding Few
@@ -47,9 +44,12 @@ module _ (vs pdus : List PduFields) (n : ℕ) (counted : n ≡ length vs) (liste
   unfolding padded
   listed-most = rw (listed, counted, length-append vs (unused (pdus_most - length vs))) (omega arith)
 
-  pub read-row : (row after whole : List ℕ) (m : ℕ) → m ≡ n → after ≡ laid row 0 (m ∷ []) → whole ≡ laid after 1 (flat_map pdu_values (take n pdus))
-      → whole ≡ pdus_over row vs
-  unfolding padded pdus_over
-  read-row row after whole m e a w =
-      let t : take n pdus ≡ vs = rw listed (take_at vs (unused (pdus_most - length vs)) n (sym counted)) in
-      w ∙ rw (t, a, laid_on row 0 (m ∷ []) (flat_map pdu_values vs), e, counted)
+  -- .. of which so many are the frame's PDUs
+  pub read-pdus : take n pdus ≡ vs
+  unfolding padded
+  read-pdus = rw listed (take_at vs (unused (pdus_most - length vs)) n (sym counted))
+
+-- where there are none, their list is empty
+pub read-none : (vs : List PduFields) → 0 ≡ length vs → [] ≡ vs
+read-none [] e = refl
+read-none (v ∷ vs) e = absurd (let z : ⊥ = omega arith in z)

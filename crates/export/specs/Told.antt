@@ -54,6 +54,13 @@ header_told used room = pick (ltb room frame_header_bytes) (refuses 14 []) (head
 
 -- ---- rows of records
 
+-- how many numbers a row has before its records at most, and how many each record has
+abbrev pub before_most : ℕ
+before_most = 2
+
+abbrev pub each_most : ℕ
+each_most = 9
+
 -- the row after a spreading: the next index, how many areas have a state, and the numbers of each
 unfoldable pub run_over : List ℕ → Run → List ℕ
 run_over row run = laid row 0 (run.next ∷ length run.states ∷ flat_map state_values run.states)

@@ -1,18 +1,15 @@
-// The frame builder, the frame header and the frame reader. A builder's state goes in as numbers and comes back in the row.
+// The frame builder and the frame header. A builder's state goes in as numbers and comes back in the row.
 ghost use Rattle.std.specs.Prelude.{◌≡◌, [], ◌∷◌, ◌++◌, length};
+ghost use Rattle.refusal.specs.Said.{said, said_if_any};
 ghost use Rattle.pdu.specs.Answers.{said_header, header_said, header_left};
 ghost use Rattle.created_frame.specs.Frame.{opened, after_open, pushed, pushed_builder, pushed_next, after_push, rest_pushed, rest_builder, rest_next, after_rest, can_push};
 ghost use Rattle.created_frame.specs.Answers.{handle_values, state_values, said_opened, said_pushed, said_rest};
 ghost use Rattle.export.specs.Told.{code_of, row_over, state_of, state_over, bytes_over, header_told};
 
-use crate::row::{ABSENT, GIVES, given, put, refused};
-use created_frame::{
-    Builder, CanPush, Opened, PduResponseHandle, Push, Pushed, Rest, RestPush, handle_row,
-    state_row,
-};
-use pdu::{FRAME_HEADER_BYTES, HeaderAnswer};
+use crate::row::{ABSENT, GIVES, STATE_NUMBERS, Told, tell};
+use created_frame::{Builder, state_row};
+use pdu::FRAME_HEADER_BYTES;
 use refusal::Refusal;
-use wire::flag;
 
 // Zeroes the area; the row takes the state of an empty one: used, count, last.
 pub fn morel_open(area: &mut [u8], out: &mut [u64]) -> u8
@@ -20,21 +17,7 @@ pub fn morel_open(area: &mut [u8], out: &mut [u64]) -> u8
     ensures bytes { area.new ≡ after_open area.old }
     ensures lent { out.new ≡ row_over out.old (opened (length area.old)) }
 {
-    let r = created_frame::open(area);
-    of_opened(out, r)
-}
-
-fn of_opened(out: &mut [u64], r: Opened) -> u8
-    ensures code { result ≡ code_of (said_opened r) }
-    ensures lent { out.new ≡ row_over out.old (said_opened r) }
-{
-    match r {
-        Opened::Ready(b) => {
-            let xs = state_row(b);
-            given(out, &xs)
-        }
-        Opened::No(x) => refused(out, x),
-    }
+    tell(out, created_frame::open(area))
 }
 
 // Pushes a PDU of these bytes, its payload as long as the larger of their count and `over`.
@@ -60,45 +43,7 @@ pub fn morel_push_pdu(
 {
     let b = Builder { used, count, last };
     let r = created_frame::push_pdu(area, b, index, command, address, bytes, over);
-    of_push(out, r)
-}
-
-fn of_push(out: &mut [u64], r: Push) -> u8
-    ensures code { result ≡ code_of (said_pushed r.answer) }
-    ensures lent { out.new ≡ state_over out.old r.builder r.next (said_pushed r.answer) }
-{
-    let answer = r.answer;
-    let b = r.builder;
-    let next = r.next;
-    match answer {
-        Pushed::Done(h) => {
-            let xs = pushed_row(b, next, h);
-            put(out, 0, &xs);
-            GIVES
-        }
-        Pushed::No(x) => {
-            let xs = kept_row(b, next);
-            put(out, 0, &xs);
-            refusal::number(x)
-        }
-    }
-}
-
-// The state and the next index.
-fn kept_row(b: Builder, next: u8) -> [u64; 4]
-    ensures { result ≡ state_values b ++ next ∷ [] }
-{
-    let s = state_row(b);
-    [s[0], s[1], s[2], next as u64]
-}
-
-// .. and the PDU behind them.
-fn pushed_row(b: Builder, next: u8, h: PduResponseHandle) -> [u64; 8]
-    ensures { result ≡ state_values b ++ next ∷ handle_values h }
-{
-    let s = state_row(b);
-    let t = handle_row(h);
-    [s[0], s[1], s[2], next as u64, t[0], t[1], t[2], t[3]]
+    tell_push(out, r.builder, r.next, if_any(r.answer))
 }
 
 // Pushes a PDU of the first of these bytes, as many as have room. The row takes the state after it and the next index,
@@ -123,52 +68,44 @@ pub fn morel_push_pdu_slice_rest(
 {
     let b = Builder { used, count, last };
     let r = created_frame::push_pdu_slice_rest(area, b, index, command, address, bytes);
-    of_rest(out, r)
+    tell_push(out, r.builder, r.next, r.answer)
 }
 
-fn of_rest(out: &mut [u64], r: RestPush) -> u8
-    ensures code { result ≡ code_of (said_rest r.answer) }
-    ensures lent { out.new ≡ state_over out.old r.builder r.next (said_rest r.answer) }
+// The state after a push and the next index, and behind them what it gives.
+#[tactic(auto, using(crate::proofs::Laws::state_laid), unfolding(crate::specs::Told::state_over))]
+fn tell_push<T: Told>(
+    out: &mut [u64],
+    b: Builder,
+    next: u8,
+    answer: Result<Option<T>, Refusal>,
+) -> u8
+    ensures code { result ≡ code_of (said_if_any T.values answer) }
+    ensures lent { out.new ≡ state_over out.old b next (said_if_any T.values answer) }
 {
-    let answer = r.answer;
-    let b = r.builder;
-    let next = r.next;
+    wire::lay(out, 0, &kept_row(b, next));
     match answer {
-        Rest::Done { taken, pdu } => {
-            let xs = taken_row(b, next, taken, pdu);
-            put(out, 0, &xs);
+        Ok(Some(x)) => {
+            x.put(out, STATE_NUMBERS + 1);
             GIVES
         }
-        Rest::Absent => {
-            let xs = kept_row(b, next);
-            put(out, 0, &xs);
-            ABSENT
-        }
-        Rest::No(x) => {
-            let xs = kept_row(b, next);
-            put(out, 0, &xs);
-            refusal::number(x)
-        }
+        Ok(None) => ABSENT,
+        Err(x) => refusal::number(x),
     }
 }
 
-// The state and the next index, how many bytes were taken, and the PDU.
-fn taken_row(b: Builder, next: u8, taken: usize, h: PduResponseHandle) -> [u64; 9]
-    ensures { result ≡ state_values b ++ next ∷ taken ∷ handle_values h }
+// The state and the next index.
+fn kept_row(b: Builder, next: u8) -> [u64; 4]
+    ensures { result ≡ state_values b ++ next ∷ [] }
 {
-    let s = state_row(b);
-    let t = handle_row(h);
-    [
-        s[0],
-        s[1],
-        s[2],
-        next as u64,
-        taken as u64,
-        t[0],
-        t[1],
-        t[2],
-        t[3],
-    ]
+    let [used, count, last] = state_row(b);
+    [used, count, last, u64::from(next)]
+}
+
+// What is given as what may be absent.
+fn if_any<T: Told>(answer: Result<T, Refusal>) -> Result<Option<T>, Refusal>
+    ensures { said_if_any T.values result ≡ said T.values answer }
+{
+    Ok(Some(answer?))
 }
 
 // Whether a PDU of len payload bytes has room: 1 or 0.
@@ -184,13 +121,7 @@ pub fn morel_can_push_pdu_payload(
     ensures lent { out.new ≡ row_over out.old (can_push size (state_of used count last) len) }
 {
     let b = Builder { used, count, last };
-    match created_frame::can_push_pdu_payload(size, b, len) {
-        CanPush::Room(t) => {
-            let xs = [flag(t)];
-            given(out, &xs)
-        }
-        CanPush::No(x) => refused(out, x),
-    }
+    tell(out, created_frame::can_push_pdu_payload(size, b, len))
 }
 
 // The two bytes of the header of a frame whose PDUs take this many bytes, at the front of `bytes`; fewer than two are refused. A refusal leaves them.
@@ -210,14 +141,11 @@ fn put_header(used: usize, bytes: &mut [u8]) -> u8
     ensures code { result ≡ code_of (header_said used) }
     ensures lent { bytes.new ≡ bytes_over bytes.old (header_said used) (header_left used) }
 {
-    let h = pdu::frame_header(used);
-    let answer = h.answer;
-    let head = h.bytes;
-    match answer {
-        HeaderAnswer::Header => {
+    match pdu::frame_header(used) {
+        Ok(head) => {
             wire::lay(bytes, 0, &head);
             GIVES
         }
-        HeaderAnswer::No(x) => refusal::number(x),
+        Err(x) => refusal::number(x),
     }
 }

@@ -7,14 +7,8 @@ ghost use Rattle.sii.specs.Fixed.{alias_said, set_said, set_image, identity_said
 ghost use Rattle.sii.specs.General.{general_said};
 ghost use Rattle.export.specs.Told.{code_of, row_over};
 
-use crate::row::{ABSENT, GIVES, given, refused};
-use category::{Found, InsideAnswer};
+use crate::row::{code_of, tell, tell_if_any};
 use eeprom::Chunk;
-use sii::{
-    AliasAnswer, AliasSet, GeneralAnswer, IdentityAnswer, MailboxAnswer, SizeAnswer, general_row,
-    identity_row, mailbox_row,
-};
-use wire::flag;
 
 // The CRC-8 of the bytes.
 pub fn morel_crc(bytes: &[u8]) -> u8
@@ -28,13 +22,7 @@ pub fn morel_station_alias(image: &[u8], out: &mut [u64]) -> u8
     ensures code { result ≡ code_of (alias_said image.now) }
     ensures lent { out.new ≡ row_over out.old (alias_said image.now) }
 {
-    match sii::station_alias(image, Chunk::Eight) {
-        AliasAnswer::Alias(a) => {
-            let xs = [a as u64];
-            given(out, &xs)
-        }
-        AliasAnswer::No(x) => refused(out, x),
-    }
+    tell(out, sii::station_alias(image, Chunk::Eight))
 }
 
 // Sets the configured station alias and the checksum; a refusal leaves the image as it is.
@@ -42,10 +30,7 @@ pub fn morel_set_station_alias(image: &mut [u8], alias: u16) -> u8
     ensures code { result ≡ code_of (set_said image.old) }
     ensures lent { image.new ≡ set_image image.old alias }
 {
-    match sii::set_station_alias(image, alias) {
-        AliasSet::Done => GIVES,
-        AliasSet::No(x) => refusal::number(x),
-    }
+    code_of(sii::set_station_alias(image, alias))
 }
 
 // Vendor, product, revision and serial number.
@@ -53,13 +38,7 @@ pub fn morel_identity(image: &[u8], out: &mut [u64]) -> u8
     ensures code { result ≡ code_of (identity_said image.now) }
     ensures lent { out.new ≡ row_over out.old (identity_said image.now) }
 {
-    match sii::identity(image, Chunk::Eight) {
-        IdentityAnswer::Is(d) => {
-            let xs = identity_row(d);
-            given(out, &xs)
-        }
-        IdentityAnswer::No(x) => refused(out, x),
-    }
+    tell(out, sii::identity(image, Chunk::Eight))
 }
 
 // The standard mailbox.
@@ -67,13 +46,7 @@ pub fn morel_mailbox_config(image: &[u8], out: &mut [u64]) -> u8
     ensures code { result ≡ code_of (mailbox_said image.now) }
     ensures lent { out.new ≡ row_over out.old (mailbox_said image.now) }
 {
-    match sii::mailbox_config(image, Chunk::Eight) {
-        MailboxAnswer::Is(m) => {
-            let xs = mailbox_row(m);
-            given(out, &xs)
-        }
-        MailboxAnswer::No(x) => refused(out, x),
-    }
+    tell(out, sii::mailbox_config(image, Chunk::Eight))
 }
 
 // The size of the EEPROM in bytes.
@@ -81,13 +54,7 @@ pub fn morel_size(image: &[u8], out: &mut [u64]) -> u8
     ensures code { result ≡ code_of (size_said image.now) }
     ensures lent { out.new ≡ row_over out.old (size_said image.now) }
 {
-    match sii::size(image, Chunk::Eight) {
-        SizeAnswer::Bytes(n) => {
-            let xs = [n as u64];
-            given(out, &xs)
-        }
-        SizeAnswer::No(x) => refused(out, x),
-    }
+    tell(out, sii::size(image, Chunk::Eight))
 }
 
 // Where the category of this number starts and ends, in bytes.
@@ -95,14 +62,7 @@ pub fn morel_category(image: &[u8], number: u16, out: &mut [u64]) -> u8
     ensures code { result ≡ code_of (category_said image.now number) }
     ensures lent { out.new ≡ row_over out.old (category_said image.now number) }
 {
-    match category::category(image, Chunk::Eight, number) {
-        Found::At(g) => {
-            let xs = [g.byte_pos as u64, g.end as u64];
-            given(out, &xs)
-        }
-        Found::Absent => ABSENT,
-        Found::No(x) => refused(out, x),
-    }
+    tell_if_any(out, category::category(image, Chunk::Eight, number))
 }
 
 // Whether all that the search for the category of this number looks at, and the category that it finds, lie in the image: 1 or 0.
@@ -110,13 +70,7 @@ pub fn morel_category_inside(image: &[u8], number: u16, out: &mut [u64]) -> u8
     ensures code { result ≡ code_of (inside_said image.now number) }
     ensures lent { out.new ≡ row_over out.old (inside_said image.now number) }
 {
-    match category::category_inside(image, Chunk::Eight, number) {
-        InsideAnswer::Inside(t) => {
-            let xs = [flag(t)];
-            given(out, &xs)
-        }
-        InsideAnswer::No(x) => refused(out, x),
-    }
+    tell(out, category::category_inside(image, Chunk::Eight, number))
 }
 
 // The category General; not found is refusal 3.
@@ -124,11 +78,5 @@ pub fn morel_general(image: &[u8], out: &mut [u64]) -> u8
     ensures code { result ≡ code_of (general_said image.now) }
     ensures lent { out.new ≡ row_over out.old (general_said image.now) }
 {
-    match sii::general(image, Chunk::Eight) {
-        GeneralAnswer::Is(g) => {
-            let xs = general_row(g);
-            given(out, &xs)
-        }
-        GeneralAnswer::No(x) => refused(out, x),
-    }
+    tell(out, sii::general(image, Chunk::Eight))
 }

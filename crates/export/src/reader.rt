@@ -8,9 +8,9 @@ ghost use Rattle.pdu.specs.Read.{read_of, pdus_of};
 ghost use Rattle.frame_reader.specs.Answers.{said_frame, read_said};
 ghost use Rattle.export.specs.Told.{code_of, pdus_over};
 
-use crate::row::{GIVES, put};
-use frame_reader::{FrameAnswer, read_frame};
-use pdu::{PDUS_MOST, PduFields, pdu_row};
+use crate::row::{GIVES, put_all};
+use frame_reader::read_frame;
+use pdu::PduFields;
 
 // How many numbers a PDU takes of the row.
 const PDU_NUMBERS: usize = 9;
@@ -21,36 +21,23 @@ pub fn morel_read_frame(frame: &[u8], out: &mut [u64]) -> u8
     ensures code { result ≡ code_of (read_said (read_of frame.now)) }
     ensures lent { out.new ≡ pdus_over out.old (pdus_of (read_of frame.now)) }
 {
-    let r = read_frame(frame);
-    let n = r.count;
-    let pdus = r.pdus;
-    let answer = r.answer;
-    let head = [n as u64];
-    put(out, 0, &head);
-    put_pdus(out, 1, pdus, n);
-    code_of(answer)
-}
-
-fn code_of(answer: FrameAnswer) -> u8
-    ensures { result ≡ code_of (said_frame answer) }
-{
-    match answer {
-        FrameAnswer::Frame => GIVES,
-        FrameAnswer::No(x) => refusal::number(x),
+    match read_frame(frame) {
+        Ok(r) => {
+            put_pdus(out, &r.pdus[..r.count]);
+            GIVES
+        }
+        Err(x) => {
+            put_pdus(out, &[]);
+            refusal::number(x)
+        }
     }
 }
 
-// The numbers of the first n PDUs, over the row from at on.
-fn put_pdus(out: &mut [u64], at: usize, pdus: [PduFields; PDUS_MOST], n: usize)
-    requires { (at ≤ 1) × (n ≤ pdus_most) × (n ≤ length pdus) }
-    ensures { out.new ≡ laid out.old at (flat_map pdu_values (take n pdus)) }
+// How many PDUs, and the numbers of each.
+fn put_pdus(out: &mut [u64], pdus: &[PduFields])
+    requires { length pdus.now ≤ pdus_most }
+    ensures { out.new ≡ pdus_over out.old pdus.now }
 {
-    let mut i = 0;
-    let mut p = at;
-    while i < n {
-        let xs = pdu_row(pdus[i]);
-        put(out, p, &xs);
-        i += 1;
-        p += PDU_NUMBERS;
-    }
+    wire::lay(out, 0, &[pdus.len() as u64]);
+    put_all::<PduFields, PDU_NUMBERS>(out, 1, pdus);
 }

@@ -7,12 +7,10 @@ ghost use Rattle.spread.specs.Answers.{said_last, first_of};
 ghost use Rattle.spread.specs.Row.{areas_most, spread_of};
 ghost use Rattle.export.specs.Told.{code_of, state_of, run_over};
 
-use crate::row::{GIVES, put};
-use created_frame::{Builder, state_row};
-use spread::{SpreadAnswer, Spreading, spread};
-
-// How many numbers a state takes of the row.
-const STATE_NUMBERS: usize = 3;
+use crate::row::{STATE_NUMBERS, code_of, put_all};
+use created_frame::Builder;
+use refusal::Refusal;
+use spread::spread;
 
 // The image goes over the areas of the row, each of `size` bytes, as logical PDUs of this command from this address on.
 // The first area has the state (used, count, last); the answer's number is that of the last area that has a PDU of the image, 0 for no image.
@@ -34,52 +32,22 @@ pub fn morel_spread(
 {
     let first = Builder { used, count, last };
     let r = spread(areas, size, first, index, command, address, image);
-    let answer = r.answer;
-    let next = r.next;
-    let states = r.states;
-    put_run(out, next, last_of(answer), states);
-    code_of(answer)
+    put_run(out, r.next, last_of(r.answer), &r.states);
+    code_of(r.answer)
 }
 
-fn last_of(answer: SpreadAnswer) -> usize
+// The last area's number; a refused image has none.
+fn last_of(answer: Result<usize, Refusal>) -> usize
     ensures { result ≡ first_of (said_last answer) }
 {
-    match answer {
-        SpreadAnswer::Last(k) => k,
-        SpreadAnswer::No(_) => 0,
-    }
-}
-
-fn code_of(answer: SpreadAnswer) -> u8
-    ensures { result ≡ code_of (said_last answer) }
-{
-    match answer {
-        SpreadAnswer::Last(_) => GIVES,
-        SpreadAnswer::No(x) => refusal::number(x),
-    }
+    answer.unwrap_or(0)
 }
 
 // The next index, how many states, and the first n of them.
-fn put_run(out: &mut [u64], next: u8, n: usize, states: [Builder; 32])
-    requires { (n ≤ areas_most) × (n ≤ length states) }
-    ensures { out.new ≡ laid out.old 0 (next ∷ n ∷ flat_map state_values (take n states)) }
+fn put_run(out: &mut [u64], next: u8, n: usize, states: &[Builder])
+    requires { (n ≤ areas_most) × (n ≤ length states.now) }
+    ensures { out.new ≡ laid out.old 0 (next ∷ n ∷ flat_map state_values (take n states.now)) }
 {
-    let head = [next as u64, n as u64];
-    put(out, 0, &head);
-    put_states(out, 2, states, n);
-}
-
-// The numbers of the first n states, over the row from at on.
-fn put_states(out: &mut [u64], at: usize, states: [Builder; 32], n: usize)
-    requires { (at ≤ 2) × (n ≤ areas_most) × (n ≤ length states) }
-    ensures { out.new ≡ laid out.old at (flat_map state_values (take n states)) }
-{
-    let mut i = 0;
-    let mut p = at;
-    while i < n {
-        let xs = state_row(states[i]);
-        put(out, p, &xs);
-        i += 1;
-        p += STATE_NUMBERS;
-    }
+    wire::lay(out, 0, &[u64::from(next), n as u64]);
+    put_all::<Builder, STATE_NUMBERS>(out, 2, &states[..n]);
 }

@@ -2,26 +2,10 @@
 ghost use Rattle.std.specs.Prelude.{◌≡◌, length};
 ghost use Rattle.strings.specs.Strings.{string_said, length_said, room_behind};
 ghost use Rattle.strings.specs.Names.{name_said, description_said};
-ghost use Rattle.strings.specs.Answers.{said_string};
 ghost use Rattle.export.specs.Told.{code_of, row_over};
 
-use crate::row::{ABSENT, given, refused};
+use crate::row::tell_if_any;
 use eeprom::Chunk;
-use strings::StringAnswer;
-
-fn of_string(out: &mut [u64], r: StringAnswer) -> u8
-    ensures code { result ≡ code_of (said_string r) }
-    ensures lent { out.new ≡ row_over out.old (said_string r) }
-{
-    match r {
-        StringAnswer::Length(n) => {
-            let xs = [n as u64];
-            given(out, &xs)
-        }
-        StringAnswer::Absent => ABSENT,
-        StringAnswer::No(x) => refused(out, x),
-    }
-}
 
 // The string of an index.
 pub fn morel_find_string(image: &[u8], index: u8, room: &mut [u8], out: &mut [u64]) -> u8
@@ -29,8 +13,7 @@ pub fn morel_find_string(image: &[u8], index: u8, room: &mut [u8], out: &mut [u6
     ensures text { room.new ≡ room_behind (string_said image.now index (length room.old)) room.old }
     ensures lent { out.new ≡ row_over out.old (length_said (string_said image.now index (length room.old))) }
 {
-    let r = strings::find_string(image, Chunk::Eight, index, room);
-    of_string(out, r)
+    tell_if_any(out, strings::find_string(image, Chunk::Eight, index, room))
 }
 
 // The device's name; absent without General.
@@ -39,8 +22,7 @@ pub fn morel_device_name(image: &[u8], room: &mut [u8], out: &mut [u64]) -> u8
     ensures text { room.new ≡ room_behind (name_said image.now (length room.old)) room.old }
     ensures lent { out.new ≡ row_over out.old (length_said (name_said image.now (length room.old))) }
 {
-    let r = strings::device_name(image, Chunk::Eight, room);
-    of_string(out, r)
+    tell_if_any(out, strings::device_name(image, Chunk::Eight, room))
 }
 
 // The device's description; without General it is refusal 3.
@@ -49,6 +31,5 @@ pub fn morel_device_description(image: &[u8], room: &mut [u8], out: &mut [u64]) 
     ensures text { room.new ≡ room_behind (description_said image.now (length room.old)) room.old }
     ensures lent { out.new ≡ row_over out.old (length_said (description_said image.now (length room.old))) }
 {
-    let r = strings::device_description(image, Chunk::Eight, room);
-    of_string(out, r)
+    tell_if_any(out, strings::device_description(image, Chunk::Eight, room))
 }

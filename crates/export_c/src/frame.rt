@@ -1,4 +1,4 @@
-// The frame builder, the frame header and the frame reader. A builder's state goes in as numbers and comes back in the row.
+// The frame builder and the frame header. A builder's state goes in as numbers and comes back in the row.
 ghost use Rattle.std.specs.Prelude.{◌≡◌, length};
 ghost use Rattle.pdu.specs.Answers.{header_left};
 ghost use Rattle.created_frame.specs.Frame.{opened, after_open, pushed, pushed_builder, pushed_next, after_push, rest_pushed, rest_builder, rest_next, after_rest, can_push};
@@ -83,6 +83,7 @@ pub extern "C" fn morel_can_push_pdu_payload(
     export::frame::morel_can_push_pdu_payload(size, used, count, last, len, out)
 }
 
+// The two bytes of the header of a frame whose PDUs take this many bytes, at the front of `bytes`; fewer than two are refused. A refusal leaves them.
 #[unsafe(no_mangle)]
 pub extern "C" fn morel_frame_header(used: usize, bytes: &mut [u8]) -> u8
     ensures code { result ≡ code_of (header_told used (length bytes.old)) }

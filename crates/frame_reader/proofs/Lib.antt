@@ -1,4 +1,5 @@
 pub mod Laws
+pub mod Blank
 pub mod Exactly
 pub mod Unique
 pub mod Reading

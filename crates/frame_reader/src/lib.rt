@@ -2,84 +2,60 @@
 // Two steps, header and body, each calling the other on what is left, find where the PDUs start; a loop then reads their fields.
 #![tactic(auto)]
 
-ghost use Rattle.std.specs.Prelude.{◌≡◌, ℕ, ◌+◌, ◌-◌, ◌*◌, ◌≤◌, ◌<◌, [], length, take};
+ghost use Rattle.std.specs.Prelude.{◌≡◌, ℕ, ◌+◌, ◌-◌, ◌*◌, ◌≤◌, ◌<◌, length};
 ghost use Rattle.wire.specs.Bytes.{word_past};
 ghost use Rattle.pdu.specs.Pdu.{area_most, header_bytes, pdu_overhead, frame_header_bytes, pdus_most};
-ghost use Rattle.pdu.specs.Read.{bad, good, body_at, places_at, seen_at, read_of, pdus_of};
-ghost use Rattle.frame_reader.specs.Answers.{said_frame, read_said, no_pdu, padded};
+ghost use Rattle.pdu.specs.Read.{good, body_at, places_at, frame_of, seen_at, read_of, pdus_of};
+ghost use Rattle.frame_reader.specs.Answers.{said_frame, count_of, pdus_in, read_said, padded};
 ghost use Rattle.frame_reader.specs.Walk.{walked_of, placed, listing};
 
 use pdu::{
     ADDRESS_AT, CIRCULATED_BIT, FLAGS_AT, FRAME_HEADER_BYTES, HEADER_BYTES, INDEX_AT, IRQ_AT,
-    LENGTH_PAST, MORE_BIT, PDU_OVERHEAD_BYTES, PDUS_MOST, PduFields, TYPE_BIT, ends_rightly,
+    LENGTH_PAST, MORE_BIT, PDU_OVERHEAD_BYTES, PDUS_MOST, PduFields, ends_rightly, pdus_end,
 };
 use refusal::Refusal;
 use wire::{byte_at, long_at, word_at};
 
-// What reading a frame answers.
-#[derive(Clone, Copy)]
-pub enum FrameAnswer {
-    // The bytes are a frame, and the list has its PDUs.
-    Frame,
-    // 12: they are none, and the list is empty.
-    No(Refusal),
-}
-
-// The answer, and the PDUs in order; a place past the count holds zeros.
+// The PDUs of a frame, in order; a place past the count holds zeros.
+// The count stands beside an array because the memory is fixed, and because the promise says what every place holds.
+// A struct of its own and not one generic with the lists of the SII: `pdus` here, and `items` there, are public names that callers read.
 #[derive(Clone, Copy)]
 pub struct FrameRead {
-    pub answer: FrameAnswer,
     pub count: usize,
     pub pdus: [PduFields; PDUS_MOST],
 }
 
-// What the cycle finds: the number of PDUs, or no frame.
-#[derive(Clone, Copy)]
-enum Walked {
-    Good(usize),
-    Bad,
+// The PDUs of a frame: each one's fields and its payload's place, in order. Bytes that are no frame are 12.
+pub fn read_frame(s: &[u8]) -> Result<FrameRead, Refusal>
+    ensures answer { said_frame result ≡ read_said (read_of s.now) }
+    ensures count { count_of result ≡ length (pdus_of (read_of s.now)) }
+    ensures pdus { pdus_in result ≡ padded (pdus_of (read_of s.now)) }
+{
+    let mut places = [0; PDUS_MOST];
+    let count = find_pdus(s, &mut places).ok_or(Refusal::BadFrame)?;
+    Ok(listed(s, &places[..count]))
 }
 
-// The PDUs of a frame: each one's fields and its payload's place, in order.
-pub fn read_frame(s: &[u8]) -> FrameRead
-    ensures { (said_frame result.answer ≡ read_said (read_of s.now)) × (result.count ≡ length (pdus_of (read_of s.now))) × (result.pdus ≡ padded (pdus_of (read_of s.now))) }
+// How many PDUs the frame has; each one's start goes into `out`.
+#[tactic(auto, unfolding(pdu::specs::Read::frame_of, crate::specs::Walk::walked_of, crate::specs::Walk::placed, crate::specs::Walk::stored))]
+fn find_pdus(s: &[u8], out: &mut [u16; PDUS_MOST]) -> Option<usize>
+    ensures { (result ≡ walked_of 0 (frame_of s.now)) × (out.new ≡ placed 0 (frame_of s.now) out.old) }
 {
-    if s.len() < FRAME_HEADER_BYTES {
-        return refused();
+    let end = pdus_end(s)?;
+    if end == FRAME_HEADER_BYTES {
+        return Some(0);
     }
-    let w = word_at(s, 0);
-    let n = (w % LENGTH_PAST) as usize;
-    if w / TYPE_BIT != 1 {
-        return refused();
-    }
-    if s.len() - FRAME_HEADER_BYTES < n {
-        return refused();
-    }
-    if n == 0 {
-        return no_pdus(FrameAnswer::Frame);
-    }
-    let mut places = [0u16; PDUS_MOST];
-    let found = header(
-        s,
-        FRAME_HEADER_BYTES,
-        n + FRAME_HEADER_BYTES,
-        0,
-        &mut places,
-    );
-    match found {
-        Walked::Bad => refused(),
-        Walked::Good(m) => listed(s, &places, m),
-    }
+    header(s, FRAME_HEADER_BYTES, end, 0, out)
 }
 
 // The PDUs from `at` to `end`, the k-th first: each one's start goes into `out`, unless there is a fault behind it.
 #[cycle(body_header)]
-fn header(s: &[u8], at: usize, end: usize, k: usize, out: &mut [u16]) -> Walked
-    requires { (at ≤ end) × (end ≤ area_most + frame_header_bytes) × (pdu_overhead * k + frame_header_bytes ≤ at) × (length out.old ≡ pdus_most) }
+fn header(s: &[u8], at: usize, end: usize, k: usize, out: &mut [u16; PDUS_MOST]) -> Option<usize>
+    requires { (at ≤ end) × (end ≤ area_most + frame_header_bytes) × (pdu_overhead * k + frame_header_bytes ≤ at) }
     ensures { (f : ℕ) → end - at ≤ f → (result ≡ walked_of k (places_at f s.now at end)) × (out.new ≡ placed k (places_at f s.now at end) out.old) }
 {
     if end - at < PDU_OVERHEAD_BYTES {
-        return Walked::Bad;
+        return None;
     }
     let flags = word_at(s, at + FLAGS_AT);
     body(s, at, end, k, flags, out)
@@ -87,30 +63,32 @@ fn header(s: &[u8], at: usize, end: usize, k: usize, out: &mut [u16]) -> Walked
 
 // .. where the PDU at `from` has these flags.
 #[cycle(body_header)]
-fn body(s: &[u8], from: usize, end: usize, k: usize, flags: u16, out: &mut [u16]) -> Walked
-    requires { (from + pdu_overhead ≤ end) × (end ≤ area_most + frame_header_bytes) × (pdu_overhead * k + frame_header_bytes ≤ from) × (length out.old ≡ pdus_most) }
+fn body(
+    s: &[u8],
+    from: usize,
+    end: usize,
+    k: usize,
+    flags: u16,
+    out: &mut [u16; PDUS_MOST],
+) -> Option<usize>
+    requires { (from + pdu_overhead ≤ end) × (end ≤ area_most + frame_header_bytes) × (pdu_overhead * k + frame_header_bytes ≤ from) }
     ensures { (f : ℕ) → end - (from + header_bytes) ≤ f → (result ≡ walked_of k (body_at (λ next. places_at f s.now next end) from end flags)) × (out.new ≡ placed k (body_at (λ next. places_at f s.now next end) from end flags) out.old) }
 {
-    let next = from + (PDU_OVERHEAD_BYTES + ((flags % LENGTH_PAST) as usize));
-    if ends_rightly(from, end, flags) {
-        if next == end {
-            out[k] = from as u16;
-            return Walked::Good(k + 1);
-        }
-        let rest = header(s, next, end, k + 1, out);
-        match rest {
-            Walked::Bad => rest,
-            Walked::Good(_) => {
-                out[k] = from as u16;
-                rest
-            }
-        }
-    } else {
-        Walked::Bad
+    let next = from + (PDU_OVERHEAD_BYTES + usize::from(flags % LENGTH_PAST));
+    if !ends_rightly(from, end, flags) {
+        return None;
     }
+    let count = if next == end {
+        k + 1
+    } else {
+        header(s, next, end, k + 1, out)?
+    };
+    out[k] = from as u16;
+    Some(count)
 }
 
 // The fields of the PDU whose header starts at `at`.
+#[tactic(auto, unfolding(pdu::specs::Read::seen_at))]
 fn pdu_at(s: &[u8], at: usize) -> PduFields
     requires { at < word_past }
     ensures { result ≡ seen_at s.now at }
@@ -126,57 +104,21 @@ fn pdu_at(s: &[u8], at: usize) -> PduFields
         more_follows: MORE_BIT <= flags,
         irq: word_at(s, at + IRQ_AT),
         place: at + HEADER_BYTES,
-        counter: word_at(s, at + (HEADER_BYTES + (n as usize))),
+        counter: word_at(s, at + (HEADER_BYTES + usize::from(n))),
     }
 }
 
-// What an unused place holds.
-fn no_pdu() -> PduFields
-    ensures { result ≡ no_pdu }
+// The PDUs whose headers start at these places.
+fn listed(s: &[u8], places: &[u16]) -> FrameRead
+    requires { length places.now ≤ pdus_most }
+    ensures { Ok result ≡ listing s.now (good places.now) }
 {
-    PduFields {
-        command: 0,
-        index: 0,
-        address: 0,
-        len: 0,
-        circulated: false,
-        more_follows: false,
-        irq: 0,
-        place: 0,
-        counter: 0,
+    let mut pdus = [PduFields::default(); PDUS_MOST];
+    for (k, place) in places.iter().enumerate() {
+        pdus[k] = pdu_at(s, usize::from(*place));
     }
-}
-
-// This answer with an empty list.
-fn no_pdus(answer: FrameAnswer) -> FrameRead
-    ensures { result ≡ record { answer = answer; count = 0; pdus = padded [] } }
-{
-    let p = no_pdu();
     FrameRead {
-        answer,
-        count: 0,
-        pdus: [p; PDUS_MOST],
+        count: places.len(),
+        pdus,
     }
-}
-
-fn refused() -> FrameRead
-    ensures { result ≡ listing [] bad }
-{
-    no_pdus(FrameAnswer::No(Refusal::BadFrame))
-}
-
-// The PDUs whose headers stand at the first n places.
-fn listed(s: &[u8], places: &[u16], n: usize) -> FrameRead
-    requires { (n ≤ pdus_most) × (n ≤ length places.now) }
-    ensures { result ≡ listing s.now (good (take n places.now)) }
-{
-    let mut l = no_pdus(FrameAnswer::Frame);
-    let mut k = 0;
-    while k < n {
-        let p = pdu_at(s, places[k] as usize);
-        l.pdus[k] = p;
-        k += 1;
-    }
-    l.count = n;
-    l
 }

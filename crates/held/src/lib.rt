@@ -6,18 +6,19 @@ ghost use Rattle.std.specs.Prelude.{◌≡◌};
 ghost use Rattle.ports.specs.Ports.{times_set};
 ghost use Rattle.ports.specs.Answers.{said_port};
 ghost use Rattle.ports.specs.Assigning.{assigned_said, assigned_ports};
-ghost use Rattle.eeprom.specs.Range.{new_said, byte_said, write_said, write_pos, write_image};
+ghost use Rattle.eeprom.specs.Range.{standing, new_said, byte_said, write_said, write_range, write_image};
 ghost use Rattle.held.specs.Range.{alone, stands, range_on, range_mut_on, after, skip_of, byte_of, read_of, read_into, exact_of, after_exact, exact_into, write_of, written};
 ghost use Rattle.held.specs.Answers.{said_outcome, said_byte_read, said_counted};
 
-use eeprom::{Chunk, Pos};
-use ports::{Assigned, PortAnswer, Ports};
+use eeprom::{Chunk, Pos, Range, Standing};
+use ports::{Assigned, Ports};
 use refusal::Refusal;
-use step::{byte_step, exact_step, range_step, read_step, skip_step, write_step};
+use step::range_step;
 
 mod step;
 
 // A range of a lent image: where it stands, and where it ends, in bytes. The Rust's keeps a provider instead of the image.
+// Position and end are fields of their own, and no `Range`: RULES, forms say so, and the laws of a range that is lent (proofs/Lent) name them.
 #[derive(Clone, Copy)]
 pub struct EepromRange<'a> {
     pub image: &'a [u8],
@@ -33,52 +34,18 @@ pub struct EepromRangeMut<'a> {
     pub end: Pos,
 }
 
-// Whether a call was carried out.
-#[derive(Clone, Copy)]
-pub enum Outcome {
-    Done,
-    No(Refusal),
-}
-
-// A byte that was read.
-#[derive(Clone, Copy)]
-pub enum ByteRead {
-    Byte(u8),
-    No(Refusal),
-}
-
-// A byte, and the position after it.
-#[derive(Clone, Copy)]
-pub struct ByteStep {
-    pub answer: ByteRead,
-    pub byte_pos: Pos,
-}
-
-// How many bytes.
-#[derive(Clone, Copy)]
-pub enum Counted {
-    Bytes(Pos),
-    No(Refusal),
-}
-
-// A count of bytes, and the position after them.
-#[derive(Clone, Copy)]
-pub struct CountStep {
-    pub answer: Counted,
-    pub byte_pos: Pos,
-}
-
 // A range that was asked for; refused, it is a closed one, on which every later call is 14.
+// The answer is no `Result` with the range in it, since a refused `new` hands out a range too: `refused_closed` speaks of it.
 #[derive(Clone, Copy)]
 pub struct Opened<'a> {
-    pub answer: Outcome,
+    pub answer: Result<(), Refusal>,
     pub range: EepromRange<'a>,
 }
 
 // The same of an image that is lent to be written.
 #[derive(Drop)]
 pub struct OpenedMut<'a> {
-    pub answer: Outcome,
+    pub answer: Result<(), Refusal>,
     pub range: EepromRangeMut<'a>,
 }
 
@@ -88,11 +55,10 @@ impl<'a> EepromRange<'a> {
         ensures { (said_outcome result.answer ≡ alone (new_said start_word len_words)) × (result.range ≡ range_on image.entry (new_said start_word len_words)) }
     {
         let s = range_step(start_word, len_words);
-        let a = s.answer;
         Opened {
-            answer: a,
+            answer: s.answer,
             range: EepromRange {
-                image: image,
+                image,
                 byte_pos: s.byte_pos,
                 end: s.end,
             },
@@ -100,39 +66,52 @@ impl<'a> EepromRange<'a> {
     }
 
     // Moves the position on, to before the end. Refuses 14, then 2.
-    pub fn skip_ahead_bytes(&mut self, skip: u16) -> Outcome
+    #[tactic(auto, unfolding(crate::specs::Range::alone, crate::specs::Range::stands))]
+    pub fn skip_ahead_bytes(&mut self, skip: u16) -> Result<(), Refusal>
         ensures { (said_outcome result ≡ alone (skip_of self.old skip)) × (self.new ≡ after self.old (skip_of self.old skip)) }
     {
-        let s = skip_step(self.byte_pos, self.end, skip);
-        self.byte_pos = s.byte_pos;
-        s.answer
+        let after = self.range().skip_ahead_bytes(skip)?;
+        self.byte_pos = after.byte_pos;
+        Ok(())
     }
 
     // The byte at the position. Refuses 14, then 2 at the end and past it, then 1, which is never met.
-    pub fn read_byte(&mut self, chunk: Chunk) -> ByteRead
+    #[tactic(auto, unfolding(crate::specs::Range::alone, crate::specs::Range::stands))]
+    pub fn read_byte(&mut self, chunk: Chunk) -> Result<u8, Refusal>
         ensures { (said_byte_read result ≡ alone (byte_of self.old)) × (self.new ≡ after self.old (byte_of self.old)) }
     {
-        let s = byte_step(self.image, self.byte_pos, self.end, chunk);
-        self.byte_pos = s.byte_pos;
-        s.answer
+        let (byte, after) = self.range().read_byte(self.image, chunk)?;
+        self.byte_pos = after.byte_pos;
+        Ok(byte)
     }
 
     // Reads into buf what there is of the range. Refuses 14.
-    pub fn read(&mut self, chunk: Chunk, buf: &mut [u8]) -> Counted
+    #[tactic(auto, unfolding(crate::specs::Range::alone, crate::specs::Range::stands))]
+    pub fn read(&mut self, chunk: Chunk, buf: &mut [u8]) -> Result<Pos, Refusal>
         ensures { (said_counted result ≡ alone (read_of self.old buf.old)) × ((self.new ≡ after self.old (read_of self.old buf.old)) × (buf.new ≡ read_into self.old buf.old)) }
     {
-        let s = read_step(self.image, self.byte_pos, self.end, chunk, buf);
-        self.byte_pos = s.byte_pos;
-        s.answer
+        let (count, after) = self.range().read(self.image, chunk, buf)?;
+        self.byte_pos = after.byte_pos;
+        Ok(count)
     }
 
     // Reads into the whole of buf; where the range has less, into as much of it. Refuses 14, then 2.
-    pub fn read_exact(&mut self, chunk: Chunk, buf: &mut [u8]) -> Outcome
+    pub fn read_exact(&mut self, chunk: Chunk, buf: &mut [u8]) -> Result<(), Refusal>
         ensures { (said_outcome result ≡ exact_of self.old buf.old) × ((self.new ≡ after_exact self.old buf.old) × (buf.new ≡ exact_into self.old buf.old)) }
     {
-        let s = exact_step(self.image, self.byte_pos, self.end, chunk, buf);
-        self.byte_pos = s.byte_pos;
+        let s = self.range().read_exact(self.image, chunk, buf);
+        self.byte_pos = s.range.byte_pos;
         s.answer
+    }
+
+    // Where the range stands and ends, without its image.
+    fn range(&self) -> Range
+        ensures { result ≡ record { byte_pos = self.now.byte_pos; end = self.now.end } }
+    {
+        Range {
+            byte_pos: self.byte_pos,
+            end: self.end,
+        }
     }
 }
 
@@ -142,11 +121,10 @@ impl<'a> EepromRangeMut<'a> {
         ensures { (said_outcome result.answer ≡ alone (new_said start_word len_words)) × (result.range ≡ range_mut_on image.entry (new_said start_word len_words)) }
     {
         let s = range_step(start_word, len_words);
-        let a = s.answer;
         OpenedMut {
-            answer: a,
+            answer: s.answer,
             range: EepromRangeMut {
-                image: image,
+                image,
                 byte_pos: s.byte_pos,
                 end: s.end,
             },
@@ -154,46 +132,54 @@ impl<'a> EepromRangeMut<'a> {
     }
 
     // Writes the bytes as words, while the position is before the end. Refuses 14, then 1, then 7; these two keep the words already written.
-    pub fn write(&mut self, bytes: &[u8]) -> Counted
+    pub fn write(&mut self, bytes: &[u8]) -> Result<Pos, Refusal>
         ensures { (said_counted result ≡ write_of self.old bytes.now) × (self.new ≡ written self.old bytes.now) }
     {
-        let byte_pos = self.byte_pos;
-        let end = self.end;
-        let s = write_step(&mut *self.image, byte_pos, end, bytes);
-        self.byte_pos = s.byte_pos;
+        let range = Range {
+            byte_pos: self.byte_pos,
+            end: self.end,
+        };
+        let s = range.write(self.image, bytes);
+        self.byte_pos = s.range.byte_pos;
         s.answer
     }
 }
 
-// The byte at a position of the image, and the position after it: a range made here, lent to `read_byte`, and looked at again. Refuses 14, then 2, then 1.
-pub fn byte_in(image: &[u8], byte_pos: Pos, end: Pos, chunk: Chunk) -> ByteStep
-    ensures { (said_byte_read result.answer ≡ alone (byte_said image.now byte_pos end)) × (result.byte_pos ≡ stands byte_pos (byte_said image.now byte_pos end)) }
+// The byte at a position of the image, and the range after it: one with its image is made here, lent to `read_byte`, and looked at again. Refuses 14, then 2, then 1.
+pub fn byte_in(image: &[u8], range: Range, chunk: Chunk) -> Standing<u8>
+    ensures { (said_byte_read result.answer ≡ alone (byte_said image.now range.byte_pos range.end)) × (result.range ≡ standing range (stands range.byte_pos (byte_said image.now range.byte_pos range.end))) }
 {
-    let mut range = EepromRange {
-        image: image,
-        byte_pos: byte_pos,
-        end: end,
-    };
-    let answer = range.read_byte(chunk);
-    ByteStep {
-        answer: answer,
+    let mut held = EepromRange {
+        image,
         byte_pos: range.byte_pos,
+        end: range.end,
+    };
+    let answer = held.read_byte(chunk);
+    Standing {
+        answer,
+        range: Range {
+            byte_pos: held.byte_pos,
+            ..range
+        },
     }
 }
 
-// Writes to the image at a position, and says the position after that: a range made here, lent to `write`, and looked at again. Refuses 14, then 1, then 7.
-pub fn write_in(image: &mut [u8], byte_pos: Pos, end: Pos, bytes: &[u8]) -> CountStep
-    ensures { ((said_counted result.answer ≡ write_said image.old byte_pos end bytes.now) × (result.byte_pos ≡ write_pos image.old byte_pos end bytes.now)) × (image.new ≡ write_image image.old byte_pos end bytes.now) }
+// Writes to the image at a position, and says the range after that: one with its image is made here, lent to `write`, and looked at again. Refuses 14, then 1, then 7.
+pub fn write_in(image: &mut [u8], range: Range, bytes: &[u8]) -> Standing<Pos>
+    ensures { ((said_counted result.answer ≡ write_said image.old range.byte_pos range.end bytes.now) × (result.range ≡ write_range image.old range bytes.now)) × (image.new ≡ write_image image.old range.byte_pos range.end bytes.now) }
 {
-    let mut range = EepromRangeMut {
-        image: image,
-        byte_pos: byte_pos,
-        end: end,
-    };
-    let answer = range.write(bytes);
-    CountStep {
-        answer: answer,
+    let mut held = EepromRangeMut {
+        image,
         byte_pos: range.byte_pos,
+        end: range.end,
+    };
+    let answer = held.write(bytes);
+    Standing {
+        answer,
+        range: Range {
+            byte_pos: held.byte_pos,
+            ..range
+        },
     }
 }
 
@@ -205,7 +191,10 @@ pub fn set_receive_times(ports: &mut Ports, time_p0: u32, time_p3: u32, time_p1:
 }
 
 // Links a downstream device in the caller's record, to the next port that has none. Refuses 14 for device 0, then 9.
-pub fn assign_next_downstream_port(ports: &mut Ports, downstream_subdevice_index: u16) -> PortAnswer
+pub fn assign_next_downstream_port(
+    ports: &mut Ports,
+    downstream_subdevice_index: u16,
+) -> Result<Option<u8>, Refusal>
     ensures { (said_port result ≡ assigned_said ports.old downstream_subdevice_index) × (ports.new ≡ assigned_ports ports.old downstream_subdevice_index) }
 {
     let a = ports.assign_next_downstream_port(downstream_subdevice_index);
@@ -220,7 +209,7 @@ pub fn after_assign(ports: Ports, downstream_subdevice_index: u16) -> Assigned
     let mut record = ports;
     let answer = assign_next_downstream_port(&mut record, downstream_subdevice_index);
     Assigned {
-        answer: answer,
+        answer,
         ports: record,
     }
 }

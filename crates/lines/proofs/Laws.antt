@@ -4,37 +4,33 @@ use native.Mathlib.Nat.{add-zero, le_of_eq, pow-succ'}
 use native.Mathlib.Numerals.{add-one, unary_clauses}
 use native.Mathlib.Omega.{arith}
 use mathlib.Core.Path.{◌≡◌, refl, sym, ◌∙◌}
-use mathlib.Core.Bool.{Bool, true, false, ◌&&◌}
+use mathlib.Core.Bool.{Bool, true, false, cond, ◌&&◌}
 use mathlib.Core.List.{List, [], ◌∷◌, ◌++◌}
-use lib.ListN.{length, get_or, take, drop, length-append, length-drop, drop_of_length-le}
-use lib.Seq.{drop-cons}
-use lib.Dec.{eqb, leb}
-use borrow.Author.Tests.{lt-ltb, le-ltb, le-leb, lt-leb, eq-eqb, ne_eqb, leb-true, leb-false}
+use mathlib.Core.Logic.{inl, inr}
+use denote.Ref.{Bor}
+use lib.ListN.{length, get_or, drop, length-append, length-drop, drop_of_length-le}
+use lib.Seq.{drop-cons, take_all}
+use lib.Dec.{eqb, leb, ltb}
+use borrow.Author.Tests.{lt-ltb, le-ltb, le-leb, lt-leb, eq-eqb, ne_eqb, ltb-true, ltb-false, leb-true, leb-false}
+use Rattle.std.specs.Prelude.{Option, Some, None, unwrap_or, is_some}
+use Rattle.std.specs.Option.{IsSome}
+use Rattle.std.specs.Slice.{IsGetRangeResult}
+use Rattle.std.specs.List.{slice_range, position_or_len, list_all}
+use Rattle.std.proofs.lemmas.Option.{none-some, same_Some}
+use Rattle.std.proofs.lemmas.List.Recursion.{is_position_or_len}
 use Rattle.io.specs.Digits.{hex_digit_ascii, last_digits, IsDigitCount}
 use Rattle.refusal.specs.Said.{gives, absent, pick}
 use Rattle.refusal.proofs.Tests.{both}
-use Rattle.wire.specs.Bytes.{byte_at, laid}
+use Rattle.wire.specs.Bytes.{laid}
 use Rattle.wire.proofs.Laws.{laid-past, length-laid, laid-behind, laid-cut}
 use Rattle.lines.specs.Words.{space, word_length, word_end, word_at}
-use Rattle.lines.specs.Numbers.{number_most, digit_of, all_digits, value_from, number_from, decimal_in, decimal_of}
+use Rattle.lines.specs.Numbers.{number_most, digit_of, below, all_digits, value_from, number_from, decimal_in, decimal_of}
 use Rattle.lines.specs.Pairs.{dash, nibble_of, all_hex, is_bytes, bytes_of, hex_fits, hex_said, hex_room, pair_of, pairs_of, hex_text}
 use Rattle.lines.specs.Places.{after}
 
 -- ---- the words of a line
 
-pub end_space : (line : List ℕ) (i : ℕ) → i < length line → get_or line i 0 ≡ space → i ≡ word_end line i
-unfolding word_end word_length
-end_space line i h e = rw (drop-cons line i 0 h, eq-eqb (get_or line i 0) 32 e) (sym (add-zero i))
-
-pub end_next : (line : List ℕ) (i : ℕ) → i < length line → (get_or line i 0 ≡ space → ⊥) → word_end line (i + 1) ≡ word_end line i
-unfolding word_end word_length
-end_next line i h e = rw (drop-cons line i 0 h, ne_eqb (get_or line i 0) 32 e, add-one i) (omega arith)
-
-pub end_out : (line : List ℕ) (i : ℕ) → length line ≤ i → i ≡ word_end line i
-unfolding word_end word_length
-end_out line i h = rw (drop_of_length-le line h) (sym (add-zero i))
-
-word-within : (s : List ℕ) → word_length s ≤ length s
+pub word-within : (s : List ℕ) → word_length s ≤ length s
 unfolding word_length
 word-within [] = omega arith
 word-within (b ∷ s) = step (eqb b space) (word-within s)
@@ -43,22 +39,73 @@ word-within (b ∷ s) = step (eqb b space) (word-within s)
     step true h = omega arith
     step false h = omega arith
 
--- inside the line a word ends inside it
-pub end_within : (line : List ℕ) (from : ℕ) → from ≤ length line → (from ≤ word_end line from) × (word_end line from ≤ length line)
+-- the place of the first space, or where there is none the end
+first_space : (s : List ℕ) → word_length s ≡ position_or_len (λ b. eqb b space) s
+unfolding word_length
+first_space = is_position_or_len word_length (λ b. eqb b space) refl (λ b s. step (eqb b space) s)
+  where
+    step : (t : Bool) (s : List ℕ) → pick t 0 (suc (word_length s)) ≡ cond t 0 (1 + word_length s)
+    step true s = refl
+    step false s = omega arith
+
+pub word_found : (s : List ℕ) (r : Option ℕ)
+    → r ≡ cond (ltb (position_or_len (λ b. eqb b space) s) (length s)) (Some (position_or_len (λ b. eqb b space) s)) None
+    → unwrap_or r (length s) ≡ word_length s
+word_found s r e = rw (e, ← first_space s) (step (ltb (word_length s) (length s)) refl)
+  where
+    step : (t : Bool) → ltb (word_length s) (length s) ≡ t → unwrap_or (cond t (Some (word_length s)) None) (length s) ≡ word_length s
+    step true e = refl
+    step false e = let h : length s ≤ word_length s = ltb-false _ _ e in omega (arith, word-within s)
+
+-- a word ends inside the line, or past it where it starts
+end_within : (line : List ℕ) (from : ℕ) → (from ≤ word_end line from) × (word_end line from ≤ from + (length line - from))
 unfolding word_end
-end_within line from h = (omega arith, omega (arith, word-within (drop from line), length-drop from line))
+end_within line from = (omega arith, omega (arith, word-within (drop from line), length-drop from line))
 
-pub word_part : (line : List ℕ) (from end : ℕ) → end ≡ word_end line from → take (end - from) (drop from line) ≡ word_at line from
+-- the rest of the line from there on begins with the word
+pub end_in : (line rest : List ℕ) (from n : ℕ) → rest ≡ slice_range line from (length line) → n ≡ word_length rest → from + n ≡ word_end line from
+unfolding word_end
+end_in line rest from n e f = rw (f, e, take_all (length line - from) (drop from line) (le_of_eq (length-drop from line))) refl
+
+pub end_past : (line : List ℕ) (from : ℕ) → length line < from → from ≡ word_end line from
+unfolding word_end word_length
+end_past line from h = let k : length line ≤ from = omega arith in rw (drop_of_length-le line k) (sym (add-zero from))
+
+-- .. and so does the word itself
+word_is : (line word : List ℕ) (from end : ℕ) → end ≡ word_end line from → word ≡ slice_range line from end → word ≡ word_at line from
 unfolding word_end word_at
-word_part line from end e =
+word_is line word from end e f =
     let d : end - from ≡ word_length (drop from line) = omega arith in
-    rw d
+    rw (f, d) refl
 
-pub word_out : (line : List ℕ) (from : ℕ) → length line ≤ from → [] ≡ word_at line from
+word_out : (line : List ℕ) (from : ℕ) → length line ≤ from → [] ≡ word_at line from
 unfolding word_at word_length
 word_out line from h = rw (drop_of_length-le line h)
 
+-- .. and no word is what stands past the line's end
+pub word_got : (line : List ℕ) (from end : ℕ) (r : Option (Bor (List ℕ))) (none : Bor (List ℕ))
+    → end ≡ word_end line from → none.now ≡ [] → IsGetRangeResult line from end r → (unwrap_or r none).now ≡ word_at line from
+word_got line from end (Some word) none e n h = word_is line word.now from end e h.0.2
+word_got line from end None none e n h = n ∙ word_out line from (elim h.0 [ inl l ↦ omega (arith, end_within line from) | inr l ↦ omega (arith, end_within line from) ])
+
 -- ---- a number in decimal
+
+pub ruleset digits = (lt-ltb, le-ltb)
+
+-- a number below n, if it is there, and that it is not
+pub below_is : (n v d : ℕ) (r : Option ℕ) → r ≡ below n v → r ≡ Some d → (d ≡ v) × (v < n)
+below_is n v d r e f = step (ltb v n) refl (sym f ∙ e)
+  where
+    step : (t : Bool) → ltb v n ≡ t → Some d ≡ pick t (Some v) None → (d ≡ v) × (v < n)
+    step true g h = (same_Some d v h, ltb-true _ _ g)
+    step false g h = absurd (none-some d (sym h))
+
+pub below_not : (n v : ℕ) (r : Option ℕ) → r ≡ below n v → r ≡ None → n ≤ v
+below_not n v r e f = step (ltb v n) refl (sym f ∙ e)
+  where
+    step : (t : Bool) → ltb v n ≡ t → None ≡ pick t (Some v) None → n ≤ v
+    step true g h = absurd (none-some v h)
+    step false g h = ltb-false _ _ g
 
 value_grows : (v : ℕ) (s : List ℕ) → v ≤ value_from v s
 unfolding value_from
@@ -91,42 +138,23 @@ from_end v s i h m = rw (drop_of_length-le s h, le-leb v number_most m)
 
 -- ---- bytes in hex
 
-pub hex_more : (s : List ℕ) (i : ℕ) → i < length s → nibble_of (get_or s i 0) ≤ 15 → all_hex (drop (i + 1) s) ≡ all_hex (drop i s)
-unfolding all_hex
-hex_more s i h d = rw (drop-cons s i 0 h, le-leb (nibble_of (get_or s i 0)) 15 d, add-one i)
+below_some : (v : ℕ) → is_some (below 16 v) ≡ leb v 15
+below_some v = step (ltb v 16) refl
+  where
+    step : (t : Bool) → ltb v 16 ≡ t → is_some (pick t (Some v) None) ≡ leb v 15
+    step true e = let h : v < 16 = ltb-true _ _ e in rw (le-leb v 15 (omega arith))
+    step false e = let h : 16 ≤ v = ltb-false _ _ e in rw (lt-leb v 15 (omega arith))
 
-pub hex_bad : (s : List ℕ) (i : ℕ) → i < length s → 15 < nibble_of (get_or s i 0) → false ≡ all_hex (drop i s)
+pub hex_each : (s : List ℕ) → list_all (λ b. is_some (below 16 (nibble_of b))) s ≡ all_hex s
 unfolding all_hex
-hex_bad s i h d = rw (drop-cons s i 0 h, lt-leb (nibble_of (get_or s i 0)) 15 d)
-
-pub hex_end : (s : List ℕ) (i : ℕ) → length s ≤ i → true ≡ all_hex (drop i s)
-unfolding all_hex
-hex_end s i h = rw (drop_of_length-le s h)
+hex_each [] = refl
+hex_each (b ∷ s) = rw (below_some (nibble_of b), hex_each s) refl
 
 hex_in : (s : List ℕ) (i : ℕ) → all_hex s ≡ true → i < length s → nibble_of (get_or s i 0) ≤ 15
 unfolding all_hex
 hex_in [] i e h = omega arith
 hex_in (b ∷ s) zero e h = leb-true _ _ (both (leb (nibble_of b) 15) (all_hex s) e).0
 hex_in (b ∷ s) (suc i) e h = hex_in s i (both (leb (nibble_of b) 15) (all_hex s) e).1 (omega arith)
-
--- a word of one byte or none is BYTES if it is the dash
-pub bytes-short : (s : List ℕ) → length s < 2 → eqb (byte_at s 0) dash ≡ is_bytes s
-unfolding is_bytes byte_at
-bytes-short [] h = refl
-bytes-short (a ∷ []) h = refl
-bytes-short (a ∷ b ∷ s) h = absurd (let z : ⊥ = omega arith in z)
-
-pub bytes-even : (s : List ℕ) → 2 ≤ length s → length s % 2 ≡ 0 → all_hex s ≡ is_bytes s
-unfolding is_bytes
-bytes-even [] h e = absurd (let z : ⊥ = omega arith in z)
-bytes-even (a ∷ []) h e = absurd (let z : ⊥ = omega arith in z)
-bytes-even (a ∷ b ∷ s) h e = rw (eq-eqb (length (a ∷ b ∷ s) % 2) 0 e)
-
-pub bytes_odd : (s : List ℕ) → 2 ≤ length s → (length s % 2 ≡ 0 → ⊥) → false ≡ is_bytes s
-unfolding is_bytes
-bytes_odd [] h e = absurd (let z : ⊥ = omega arith in z)
-bytes_odd (a ∷ []) h e = absurd (let z : ⊥ = omega arith in z)
-bytes_odd (a ∷ b ∷ s) h e = rw (ne_eqb (length (a ∷ b ∷ s) % 2) 0 e)
 
 pub length-bytes : (s : List ℕ) → length (bytes_of s) ≡ length s / 2
 unfolding bytes_of
@@ -135,11 +163,16 @@ length-bytes (a ∷ []) = refl
 length-bytes (a ∷ b ∷ s) = omega (arith, length-bytes s)
 
 -- every digit of a pair is one
-pub nibble_in : (s : List ℕ) (i : ℕ) → is_bytes s ≡ true → i < 2 * (length s / 2) → nibble_of (get_or s i 0) ≤ 15
+nibble_in : (s : List ℕ) (i : ℕ) → is_bytes s ≡ true → i < 2 * (length s / 2) → nibble_of (get_or s i 0) ≤ 15
 unfolding is_bytes
 nibble_in [] i e h = omega arith
 nibble_in (a ∷ []) i e h = omega arith
 nibble_in (a ∷ b ∷ s) i e h = hex_in (a ∷ b ∷ s) i (both (eqb (length (a ∷ b ∷ s) % 2) 0) (all_hex (a ∷ b ∷ s)) e).1 (omega arith)
+
+pub nibble_is : (s : List ℕ) (i : ℕ) (r : Option ℕ) → is_bytes s ≡ true → i < 2 * (length s / 2) → r ≡ below 16 (nibble_of (get_or s i 0)) → IsSome r
+nibble_is s i r e h f =
+    let d : nibble_of (get_or s i 0) < 16 = omega (arith, nibble_in s i e h) in
+    rw (f, lt-ltb (nibble_of (get_or s i 0)) 16 d) refl
 
 -- byte j is that of pair j
 pub byte_of : (s : List ℕ) (j : ℕ) → j < length (bytes_of s)

@@ -1,21 +1,23 @@
 -- Numbers in decimal, read and written (docs/DESK.md). Definitions only.
-use Rattle.std.specs.Prelude.{ℕ, zero, suc, ◌+◌, ◌-◌, ◌*◌, ◌/◌, ◌%◌, List, [], ◌∷◌, ◌++◌, Bool, true, ◌&&◌, length, eqb, leb, ltb}
+use Rattle.std.specs.Prelude.{ℕ, zero, suc, ◌+◌, ◌-◌, ◌*◌, ◌/◌, ◌%◌, List, [], ◌∷◌, ◌++◌, Bool, true, ◌&&◌, length, eqb, leb, ltb, Option, Some, None}
 use Rattle.refusal.specs.Said.{Said, gives, absent, pick}
-use Rattle.lines.specs.declared.NumberAnswer.{NumberAnswer}
-use Rattle.lines.specs.declared.NumberAnswer.TheVariants as is
 
 -- the largest number that a line may hold: 32 bits
 abbrev pub number_most : ℕ
 number_most = 4294967295
 
 -- what an answer says: the number, or that there is none
-abbrev pub said_number : NumberAnswer → Said
-said_number (is.Is n) = gives (n ∷ [])
-said_number is.Not = absent
+abbrev pub said_number : Option ℕ → Said
+said_number (Some n) = gives (n ∷ [])
+said_number None = absent
 
 -- the value of a digit `0` to `9`; 10 of any other byte
 unfoldable pub digit_of : ℕ → ℕ
 digit_of b = pick (ltb b 48) 10 (pick (ltb b 58) (b - 48) 10)
+
+-- a number below n; none where it is not
+abbrev pub below : ℕ → ℕ → Option ℕ
+below n v = pick (ltb v n) (Some v) None
 
 -- digits and nothing else
 unfoldable pub all_digits : List ℕ → Bool

@@ -1,18 +1,16 @@
 -- BYTES: pairs of hex digits in lower case, `-` for none (docs/DESK.md). Definitions only.
-use Rattle.std.specs.Prelude.{ℕ, ◌+◌, ◌-◌, ◌*◌, ◌/◌, ◌%◌, List, [], ◌∷◌, ◌++◌, Bool, true, false, ◌&&◌, length, eqb, leb, ltb}
+use Rattle.std.specs.Prelude.{ℕ, ◌+◌, ◌-◌, ◌*◌, ◌/◌, ◌%◌, List, [], ◌∷◌, ◌++◌, Bool, true, false, ◌&&◌, length, eqb, leb, ltb, Option, Some, None}
 use Rattle.io.specs.Digits.{hex_digit_ascii}
 use Rattle.refusal.specs.Said.{Said, gives, absent, pick}
 use Rattle.wire.specs.Bytes.{laid}
-use Rattle.lines.specs.declared.HexAnswer.{HexAnswer}
-use Rattle.lines.specs.declared.HexAnswer.TheVariants as is
 
 abbrev pub dash : ℕ
 dash = 45
 
 -- what an answer says: how many bytes, or that there are none
-abbrev pub said_hex : HexAnswer → Said
-said_hex (is.Length n) = gives (n ∷ [])
-said_hex is.Not = absent
+abbrev pub said_hex : Option ℕ → Said
+said_hex (Some n) = gives (n ∷ [])
+said_hex None = absent
 
 -- the value of a hex digit `0` to `9`, `a` to `f`; 16 of any other byte
 unfoldable pub nibble_of : ℕ → ℕ

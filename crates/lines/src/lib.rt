@@ -5,8 +5,8 @@
 ghost use Rattle.std.specs.Prelude.{◌≡◌, true, ◌≤◌, ◌<◌, length};
 ghost use Rattle.io.specs.Digits.{hex_digit_ascii as glyphOf};
 ghost use Rattle.wire.specs.Bytes.{laid};
-ghost use Rattle.lines.specs.Words.{word_end, word_at};
-ghost use Rattle.lines.specs.Numbers.{said_number, digit_of, number_from, number_said, decimal_of};
+ghost use Rattle.lines.specs.Words.{word_length, word_end, word_at};
+ghost use Rattle.lines.specs.Numbers.{said_number, digit_of, below, number_from, number_said, decimal_of};
 ghost use Rattle.lines.specs.Pairs.{
   said_hex,
   nibble_of,
@@ -21,60 +21,39 @@ ghost use Rattle.lines.specs.Pairs.{
 };
 ghost use Rattle.lines.specs.Places.{after};
 
-// A word as a number.
-#[derive(Clone, Copy)]
-pub enum NumberAnswer {
-    // The number that its digits spell.
-    Is(u64),
-    // It has no digit, or a byte that is none, or its value is above 32 bits.
-    Not,
-}
-
-// A word as bytes.
-#[derive(Clone, Copy)]
-pub enum HexAnswer {
-    // How many there are.
-    Length(usize),
-    // It is no BYTES, or they have no room.
-    Not,
+// How many bytes stand before the first space; all, if there is none.
+fn word_length(line: &[u8]) -> usize
+    ensures { result ≡ word_length line.now }
+{
+    line.iter().position(|b| *b == b' ').unwrap_or(line.len())
 }
 
 // The end of the word that starts at from.
 pub fn word_end(line: &[u8], from: usize) -> usize
     ensures { result ≡ word_end line.now from }
 {
-    let mut i = from;
-    while i < line.len() {
-        if line[i] == b' ' {
-            return i;
-        }
-        i += 1;
+    match line.get(from..) {
+        Some(rest) => from + word_length(rest),
+        None => from,
     }
-    i
 }
 
 // The word that starts at from; an empty one past the line's end.
+#[tactic(auto, using(crate::proofs::Laws::word_got))]
 pub fn word(line: &[u8], from: usize) -> &[u8]
     ensures { result.now ≡ word_at line.now from }
 {
-    let end = word_end(line, from);
-    if from < line.len() {
-        &line[from..end]
-    } else {
-        &line[..0]
-    }
+    line.get(from..word_end(line, from)).unwrap_or(&[])
 }
 
-// The value of a decimal digit; 10 of any other byte.
-fn digit(b: u8) -> u64
-    ensures { result ≡ digit_of b }
+// The value of a decimal digit.
+#[tactic(auto, using(crate::proofs::Laws::digits), unfolding(crate::specs::Numbers::digit_of))]
+fn digit(b: u8) -> Option<u8>
+    ensures { result ≡ below 10 (digit_of b) }
 {
-    if b < 48 {
-        10
-    } else if b < 58 {
-        (b - 48) as u64
-    } else {
-        10
+    match b {
+        b'0'..=b'9' => Some(b - b'0'),
+        _ => None,
     }
 }
 
@@ -82,50 +61,36 @@ fn digit(b: u8) -> u64
 const NUMBER_MOST: u64 = 4294967295;
 
 // What a word's digits say; no digit at all says 0.
-fn run(word: &[u8]) -> NumberAnswer
+fn run(word: &[u8]) -> Option<u64>
     ensures { said_number result ≡ number_from 0 word.now }
 {
     let mut v: u64 = 0;
-    let mut i = 0;
-    while i < word.len() {
-        let d = digit(word[i]);
-        if 9 < d {
-            return NumberAnswer::Not;
-        }
-        v = 10 * v + d;
+    for b in word {
+        v = 10 * v + u64::from(digit(*b)?);
         if NUMBER_MOST < v {
-            return NumberAnswer::Not;
+            return None;
         }
-        i += 1;
     }
-    NumberAnswer::Is(v)
+    Some(v)
 }
 
 // The number that a word spells in decimal, leading zeros allowed.
-pub fn number(word: &[u8]) -> NumberAnswer
+#[tactic(auto, unfolding(crate::specs::Numbers::number_said))]
+pub fn number(word: &[u8]) -> Option<u64>
     ensures { said_number result ≡ number_said word.now }
 {
-    if word.len() == 0 {
-        NumberAnswer::Not
-    } else {
-        run(word)
-    }
+    if word.is_empty() { None } else { run(word) }
 }
 
-// The value of a hex digit in lower case; 16 of any other byte.
-fn nibble(b: u8) -> u8
-    ensures { result ≡ nibble_of b }
+// The value of a hex digit in lower case.
+#[tactic(auto, using(crate::proofs::Laws::digits), unfolding(crate::specs::Pairs::nibble_of))]
+fn nibble(b: u8) -> Option<u8>
+    ensures { result ≡ below 16 (nibble_of b) }
 {
-    if b < 48 {
-        16
-    } else if b < 58 {
-        b - 48
-    } else if b < 97 {
-        16
-    } else if b < 103 {
-        b - 87
-    } else {
-        16
+    match b {
+        b'0'..=b'9' => Some(b - b'0'),
+        b'a'..=b'f' => Some(b - b'a' + 10),
+        _ => None,
     }
 }
 
@@ -133,43 +98,33 @@ fn nibble(b: u8) -> u8
 fn all_hex(word: &[u8]) -> bool
     ensures { result ≡ all_hex word.now }
 {
-    let mut i = 0;
-    while i < word.len() {
-        if 15 < nibble(word[i]) {
-            return false;
-        }
-        i += 1;
-    }
-    true
+    word.iter().all(|b| nibble(*b).is_some())
 }
 
 // Whether a word is BYTES.
+#[tactic(auto, unfolding(crate::specs::Pairs::is_bytes))]
 fn is_bytes(word: &[u8]) -> bool
     ensures { result ≡ is_bytes word.now }
 {
-    if word.len() < 2 {
-        wire::byte_at(word, 0) == b'-'
-    } else if word.len() % 2 == 0 {
-        all_hex(word)
-    } else {
-        false
+    match word {
+        [] => false,
+        [only] => *only == b'-',
+        _ => word.len() % 2 == 0 && all_hex(word),
     }
 }
 
-// Each pair's byte at the room's front.
+// Each pair's byte at the room's front. By places: nothing is known of what a loop wrote through `iter_mut` under `zip`.
 fn put_bytes(word: &[u8], room: &mut [u8], n: usize)
     requires { (is_bytes word.now ≡ true) × (n ≡ length (bytes_of word.now)) × (n ≤ length room.old) }
     ensures { room.new ≡ laid room.old 0 (bytes_of word.now) }
 {
-    let mut j = 0;
-    while j < n {
-        room[j] = 16 * nibble(word[2 * j]) + nibble(word[2 * j + 1]);
-        j += 1;
+    for j in 0..n {
+        room[j] = 16 * nibble(word[2 * j]).unwrap() + nibble(word[2 * j + 1]).unwrap();
     }
 }
 
 // The bytes that a word spells, laid at the room's front; if it is no BYTES, or they have no room, the room stays.
-pub fn hex(word: &[u8], room: &mut [u8]) -> HexAnswer
+pub fn hex(word: &[u8], room: &mut [u8]) -> Option<usize>
     ensures result_value { said_hex result ≡ hex_said word.now room.old }
     ensures room_after { room.new ≡ hex_room word.now room.old }
 {
@@ -177,21 +132,18 @@ pub fn hex(word: &[u8], room: &mut [u8]) -> HexAnswer
         let n = word.len() / 2;
         if n <= room.len() {
             put_bytes(word, room, n);
-            return HexAnswer::Length(n);
+            return Some(n);
         }
     }
-    HexAnswer::Not
+    None
 }
 
 // The place after n bytes from k on.
+#[tactic(auto, unfolding(crate::specs::Places::after))]
 fn next(len: usize, k: usize, n: usize) -> usize
     ensures { result ≡ after len k n }
 {
-    if k < len {
-        k + wire::lesser(n, len - k)
-    } else {
-        k
-    }
+    k + n.min(len.saturating_sub(k))
 }
 
 // Lays a text over out from k on, as much of it as has room, and answers the next place.
@@ -205,6 +157,7 @@ pub fn say(out: &mut [u8], k: usize, text: &[u8]) -> usize
 }
 
 // The same, of a number in decimal.
+#[tactic(auto, using(crate::proofs::Laws::decimal_fewest))]
 pub fn decimal(out: &mut [u8], k: usize, n: u64) -> usize
     ensures value { result ≡ after (length out.old) k (length (decimal_of n)) }
     ensures out_after { out.new ≡ laid out.old k (decimal_of n) }
@@ -215,6 +168,7 @@ pub fn decimal(out: &mut [u8], k: usize, n: u64) -> usize
 }
 
 // The hex digit of a value below 16.
+#[tactic(auto, using(crate::proofs::Laws::digits))]
 fn glyph(d: u8) -> u8
     requires { d < 16 }
     ensures { result ≡ glyphOf d }
@@ -237,20 +191,19 @@ fn pairs(out: &mut [u8], k: usize, bytes: &[u8]) -> usize
     ensures out_after { out.new ≡ laid out.old k (pairs_of bytes.now) }
 {
     let mut p = k;
-    let mut i = 0;
-    while i < bytes.len() {
-        p = pair(out, p, bytes[i]);
-        i += 1;
+    for b in bytes {
+        p = pair(out, p, *b);
     }
     p
 }
 
 // The same, of bytes as pairs of hex digits; `-` for none.
+#[tactic(auto, using(crate::proofs::Laws::text_none, crate::proofs::Laws::text_some))]
 pub fn hex_out(out: &mut [u8], k: usize, bytes: &[u8]) -> usize
     ensures value { result ≡ after (length out.old) k (length (hex_text bytes.now)) }
     ensures out_after { out.new ≡ laid out.old k (hex_text bytes.now) }
 {
-    if bytes.len() == 0 {
+    if bytes.is_empty() {
         say(out, k, b"-")
     } else {
         pairs(out, k, bytes)

@@ -14,11 +14,9 @@ use Rattle.lists.specs.Layout.{sm_bytes, fmmu_bytes, ex_bytes, pdo_bytes, entry_
 use Rattle.lists.specs.Records.{Item, one, none, bad}
 use Rattle.lists.specs.Inside.{SameIn, Moves, Stops, Local}
 use Rattle.lists.specs.SyncManagers.{sm_of, sm_admits, sm_at}
-use Rattle.lists.specs.Fmmus.{usage_admits, usage_of, usage_at, ex_at, fmmu_at}
+use Rattle.lists.specs.Fmmus.{usage_admits, usage_of, usage_at, ex_at}
 use Rattle.lists.specs.Pdos.{entries_of, pdo_end, sum_to, entry_bits, pdo_of, pdo_at, bit_len_below}
 use Rattle.lists.specs.declared.Pdo.{Pdo}
-use Rattle.lists.specs.declared.FmmuKind.{FmmuKind}
-use Rattle.lists.specs.declared.FmmuKind.TheVariants as kind
 
 -- ---- where a record ends
 
@@ -45,10 +43,6 @@ usage_moves image end p r q e = sized_moves end p fmmu_bytes (usage_admits (fiel
 pub ex_moves : Moves ex_at
 unfolding ex_at
 ex_moves image end p r q e = sized_moves end p ex_bytes true r (field image p ex_sync_m) q (omega arith) e
-
-pub fmmu_moves : (k : FmmuKind) → Moves (fmmu_at k)
-fmmu_moves kind.Usage = usage_moves
-fmmu_moves kind.Ex = ex_moves
 
 pub pdo_moves : Moves pdo_at
 unfolding pdo_at
@@ -177,6 +171,8 @@ sum-none f = refl
 pub sum_more : (f : ℕ → ℕ) (n : ℕ) → sum_to f n + f n ≡ sum_to f (n + 1)
 unfolding sum_to
 sum_more f n = rw add-one
+
+pub ruleset sums = (sum-none, sum_more)
 
 -- it fits 16 bits: a PDO has at most 255 entries of at most 255 bits each
 pub bits_fit : (image : List ℕ) → Bytes image → (p n : ℕ) → sum_to (entry_bits image p) n ≤ 255 * n

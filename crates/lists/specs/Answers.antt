@@ -1,49 +1,21 @@
--- What each answer says, in numbers and values (RULES, refusals). Definitions only.
-use Rattle.std.specs.Prelude.{ℕ, []}
-use Rattle.refusal.specs.Said.{Said, gives, said_of}
-use Rattle.lists.specs.Records.{Item, one, none, bad, Back}
-use Rattle.lists.specs.declared.ListAnswer.{ListAnswer}
-use Rattle.lists.specs.declared.ListAnswer.TheVariants as list
+-- What comes back of each list: what is said, in numbers and values (RULES, refusals), the count and every place. Definitions only.
+use Rattle.std.specs.Prelude.{ℕ, Result}
+use Rattle.refusal.specs.declared.Refusal.{Refusal}
+use Rattle.lists.specs.Records.{Back, back_of}
+use Rattle.lists.specs.SyncManagers.{sm_zero, sm_most}
+use Rattle.lists.specs.Fmmus.{fmmu_most}
+use Rattle.lists.specs.Pdos.{pdo_zero, pdo_most}
 use Rattle.lists.specs.declared.SyncManager.{SyncManager}
 use Rattle.lists.specs.declared.SyncManagers.{SyncManagers}
-use Rattle.lists.specs.declared.SmItem.{SmItem}
-use Rattle.lists.specs.declared.SmItem.TheVariants as sm
+use Rattle.lists.specs.declared.FmmuList.{FmmuList}
 use Rattle.lists.specs.declared.Pdo.{Pdo}
 use Rattle.lists.specs.declared.PdoList.{PdoList}
-use Rattle.lists.specs.declared.PdoItem.{PdoItem}
-use Rattle.lists.specs.declared.PdoItem.TheVariants as pdo
-use Rattle.lists.specs.declared.FmmuList.{FmmuList}
-use Rattle.lists.specs.declared.FmmuItem.{FmmuItem}
-use Rattle.lists.specs.declared.FmmuItem.TheVariants as fmmu
 
-abbrev pub said_list : ListAnswer → Said
-said_list list.Listed = gives []
-said_list (list.No x) = said_of x
+abbrev pub back_sms : Result SyncManagers Refusal → Back SyncManager
+back_sms = back_of sm_zero sm_most (λ r. r.count) (λ r. r.items)
 
--- ---- what comes back: the answer, the count and every place
+abbrev pub back_fmmus : Result FmmuList Refusal → Back ℕ
+back_fmmus = back_of 0 fmmu_most (λ r. r.count) (λ r. r.items)
 
-abbrev pub back_sms : SyncManagers → Back SyncManager
-back_sms r = record { says = said_list r.answer; count = r.count; places = r.items }
-
-abbrev pub back_fmmus : FmmuList → Back ℕ
-back_fmmus r = record { says = said_list r.answer; count = r.count; places = r.items }
-
-abbrev pub back_pdos : PdoList → Back Pdo
-back_pdos r = record { says = said_list r.answer; count = r.count; places = r.items }
-
--- ---- what stands at a position
-
-abbrev pub item_sm : SmItem → Item SyncManager
-item_sm (sm.One r p) = one r p
-item_sm sm.Stop = none
-item_sm sm.Bad = bad
-
-abbrev pub item_fmmu : FmmuItem → Item ℕ
-item_fmmu (fmmu.One r p) = one r p
-item_fmmu fmmu.Stop = none
-item_fmmu fmmu.Bad = bad
-
-abbrev pub item_pdo : PdoItem → Item Pdo
-item_pdo (pdo.One r p) = one r p
-item_pdo pdo.Stop = none
-item_pdo pdo.Bad = bad
+abbrev pub back_pdos : Result PdoList Refusal → Back Pdo
+back_pdos = back_of pdo_zero pdo_most (λ r. r.count) (λ r. r.items)

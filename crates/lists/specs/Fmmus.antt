@@ -7,8 +7,6 @@ use Rattle.sii.specs.Layout.{field}
 use Rattle.sii.specs.General.{listed}
 use Rattle.lists.specs.Layout.{fmmu_bytes, fmmu_usage, fmmu_usage_last, fmmu_unused, ex_bytes, ex_sync_m}
 use Rattle.lists.specs.Records.{Item, one, none, bad, Listed, records, in_category}
-use Rattle.lists.specs.declared.FmmuKind.{FmmuKind}
-use Rattle.lists.specs.declared.FmmuKind.TheVariants as kind
 
 -- the most FMMUs (ETG1000.4 6.6.1): of usages, the bytes that are looked at; of extended FMMUs, the most that are listed (RULES, limits)
 abbrev pub fmmu_most : ℕ
@@ -37,8 +35,3 @@ ex_at image end p = pick (leb (p + ex_bytes) end) (one (field image p ex_sync_m)
 
 unfoldable pub ex_of : List ℕ → Listed ℕ
 ex_of image = in_category (category_said image numbers.fmmu_extended) (λ p end. records (ex_at image end) fmmu_most p)
-
--- the two by their kind
-abbrev pub fmmu_at : FmmuKind → List ℕ → ℕ → ℕ → Item ℕ
-fmmu_at kind.Usage = usage_at
-fmmu_at kind.Ex = ex_at

@@ -1,7 +1,9 @@
 -- A list of the SII: the records of a category, one behind the other, in a counted array. RULES, lists.
 -- A kind of record is one function, which says what stands at a position of a category that ends somewhere. Definitions only.
-use Rattle.std.specs.Prelude.{ℕ, zero, suc, ◌-◌, List, [], ◌∷◌, ◌++◌, length, get_or, replicate}
-use Rattle.refusal.specs.Said.{Said, gives, absent, refuses}
+use Rattle.std.specs.Prelude.{ℕ, zero, suc, ◌-◌, List, [], ◌∷◌, ◌++◌, length, get_or, replicate, Option, Some, None, Result, Ok, Err}
+use Rattle.refusal.specs.Said.{Said, gives, absent, refuses, said_of}
+use Rattle.refusal.specs.declared.Refusal.{Refusal}
+use Rattle.eeprom.specs.declared.Range.{Range}
 
 -- what stands at a position: a record and where the next one starts; no whole record; one that its type does not admit
 pub data Item (R : Type 0) : Type 0 where
@@ -45,3 +47,37 @@ pub record Back (R : Type 0) : Type 0 where
 unfoldable pub back : {R : Type 0} → R → ℕ → Listed R → Back R
 back blank most (holds l) = record { says = gives []; count = length l; places = l ++ replicate (most - length l) blank }
 back blank most (no n v) = record { says = refuses n v; count = 0; places = replicate most blank }
+
+-- .. from what a call answers: a struct of a count and places, or a refusal
+abbrev pub back_of : {R T : Type 0} → R → ℕ → (T → ℕ) → (T → List R) → Result T Refusal → Back R
+back_of blank most count places (Ok r) = record { says = gives []; count = count r; places = places r }
+back_of blank most count places (Err x) = record { says = said_of x; count = 0; places = replicate most blank }
+
+-- ---- how a list is read
+
+-- what reading one record answers, in a category that ends there: the record and the rest behind it
+abbrev pub read_answer : {R : Type 0} → ℕ → Item R → Result (Option (R × Range)) Refusal
+read_answer end (one r p) = Ok (Some (r, record { byte_pos = p; end = end }))
+read_answer end none = Ok None
+read_answer end bad = Err Refusal.Decode
+
+-- what reading a list into lent places answers: how many records it holds, or its refusal
+abbrev pub count_said : {R : Type 0} → Listed R → Said
+count_said (holds l) = gives (length l ∷ [])
+count_said (no n v) = refuses n v
+
+-- .. and the records that this lays at the front of the places, as many as have room; of a list that is refused those before
+abbrev pub lay_from : {R : Type 0} → Item R → (ℕ → List R) → List R
+lay_from none go = []
+lay_from bad go = []
+lay_from (one r p) go = r ∷ go p
+
+unfoldable pub laid_records : {R : Type 0} → (ℕ → Item R) → ℕ → ℕ → List R
+laid_records item zero p = []
+laid_records item (suc room) p = lay_from (item p) (laid_records item room)
+
+-- .. of a category that was sought
+unfoldable pub laid_in : {R : Type 0} → Said → (ℕ → ℕ → List R) → List R
+laid_in (gives l) go = go (get_or l 0 0) (get_or l 1 0)
+laid_in absent go = []
+laid_in (refuses n v) go = []

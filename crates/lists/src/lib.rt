@@ -4,16 +4,18 @@
 
 mod layout;
 
-ghost use Rattle.std.specs.Prelude.{◌≡◌, ◌+◌, ◌/◌, ◌%◌, ◌≤◌, min, replicate};
-ghost use Rattle.refusal.specs.Said.{number_of, values_of};
+ghost use Rattle.std.specs.Prelude.{MatchOption, Ok, List, ℕ, ◌≡◌, ◌+◌, ◌^◌, ◌≤◌, ◌<◌, min, length};
+ghost use Rattle.refusal.specs.Said.{said, number_value};
+ghost use Rattle.wire.specs.Bytes.{overlay};
 ghost use Rattle.category.specs.Numbers.{tx_pdo, rx_pdo};
-ghost use Rattle.sii.specs.Layout.{place_most};
+ghost use Rattle.category.specs.Category.{category_said};
+ghost use Rattle.category.specs.Answers.{said_found};
 ghost use Rattle.sii.specs.General.{listed};
-ghost use Rattle.lists.specs.Records.{no, holds, records, back};
+ghost use Rattle.lists.specs.Records.{Item, records, in_category, read_answer, count_said, laid_records, laid_in, back};
 ghost use Rattle.lists.specs.SyncManagers.{mode_of, recovered, usage_type_of, sm_of, sm_values, sm_zero, sm_most, sm_at, sms_of};
-ghost use Rattle.lists.specs.Fmmus.{fmmu_most, usage_admits, usage_at, usages_of, ex_at, ex_of, fmmu_at};
-ghost use Rattle.lists.specs.Pdos.{entries_of, sum_to, entry_bits, pdo_of, pdo_values, pdo_zero, pdo_most, pdo_at, pdos_of};
-ghost use Rattle.lists.specs.Answers.{item_sm, back_sms, item_pdo, back_pdos, item_fmmu, back_fmmus};
+ghost use Rattle.lists.specs.Fmmus.{fmmu_most, usage_admits, usage_at, usages_of, ex_at, ex_of};
+ghost use Rattle.lists.specs.Pdos.{entries_of, entry_at, sum_to, entry_bits, pdo_of, pdo_values, pdo_zero, pdo_most, pdo_at, pdos_of};
+ghost use Rattle.lists.specs.Answers.{back_sms, back_pdos, back_fmmus};
 
 use crate::layout::{
     BIT_LENGTH, CONTROL_REGISTER, DIRECTION_LAST, DLS_USER_EVENT, ECAT_EVENT, ENABLE_BELOW,
@@ -22,20 +24,12 @@ use crate::layout::{
     PDO_SYNC_M, PROCESS_DATA_READ, PROCESS_DATA_WRITE, SM_BYTES, SM_LENGTH, SM_MOST, SYNC_M_TYPE,
     SYNC_M_TYPE_LAST, WATCHDOG,
 };
-use category::{FMMU, FMMU_EXTENDED, Found, RX_PDO, SYNC_MANAGER, TX_PDO, category};
-use eeprom::{Chunk, byte_of, word_of};
+use category::{FMMU, FMMU_EXTENDED, RX_PDO, SYNC_MANAGER, TX_PDO, category};
+use eeprom::{Chunk, Pos, Range, byte_of, word_of};
 use refusal::Refusal;
-use wire::flag;
 
-// What a list's call says: listed, or a refusal, and then the list is empty.
-#[derive(Clone, Copy)]
-pub enum ListAnswer {
-    Listed,
-    No(Refusal),
-}
-
-// A sync manager: modes, directions and usages by their numbers in the Rust.
-#[derive(Clone, Copy)]
+// A sync manager. Its mode, direction and usage stay numbers, those of the Rust: `usage_type` and `sync_manager_row` take any, and an enum would ask more of their callers.
+#[derive(Clone, Copy, Default)]
 pub struct SyncManager {
     pub start_addr: u16,
     pub length_bytes: u16,
@@ -49,23 +43,22 @@ pub struct SyncManager {
 }
 
 // At most 8; a place from the count on is all zero.
+// Here and in the lists below a count stands beside an array: memory is fixed, and `back` says what every place holds.
 #[derive(Clone, Copy)]
 pub struct SyncManagers {
-    pub answer: ListAnswer,
     pub count: usize,
-    pub items: [SyncManager; 8],
+    pub items: [SyncManager; SM_MOST],
 }
 
 // The usage of each FMMU, or the sync manager of each extended one: at most 16; a place from the count on is 0.
 #[derive(Clone, Copy)]
 pub struct FmmuList {
-    pub answer: ListAnswer,
     pub count: usize,
-    pub items: [u8; 16],
+    pub items: [u8; FMMU_MOST],
 }
 
 // A PDO; its bit length is the sum of its entries'.
-#[derive(Clone, Copy)]
+#[derive(Clone, Copy, Default)]
 pub struct Pdo {
     pub index: u16,
     pub num_entries: u8,
@@ -76,135 +69,133 @@ pub struct Pdo {
 // At most 64; a place from the count on is all zero.
 #[derive(Clone, Copy)]
 pub struct PdoList {
-    pub answer: ListAnswer,
     pub count: usize,
-    pub items: [Pdo; 64],
+    pub items: [Pdo; PDO_MOST],
 }
 
-// What stands at a position: a record and where the next one starts, no whole record, or one that its type does not admit.
-#[derive(Clone, Copy)]
-enum SmItem {
-    One(SyncManager, u32),
-    Stop,
-    Bad,
+// ---- a list of records of any kind
+
+// A kind of record, and what a list gives of one.
+pub trait Record {
+    type Value: Copy;
+
+    // What stands in an image, in a category that ends somewhere, at a position.
+    ghost item_at: { List ℕ → ℕ → ℕ → Item Self.Value };
+
+    // The record at the front of the rest of a category, and the rest behind it; None if no whole one stands there. Refuses 5, where its type doesn't admit it.
+    fn read(
+        image: &[u8],
+        chunk: Chunk,
+        rest: Range,
+    ) -> Result<Option<(Self::Value, Range)>, Refusal>
+        ensures { result ≡ read_answer rest.end (item_at image.now rest.end rest.byte_pos) };
 }
 
-#[derive(Clone, Copy)]
-enum FmmuItem {
-    One(u8, u32),
-    Stop,
-    Bad,
+// The rest behind so many bytes, if they lie before its end.
+pub fn rest_behind(rest: Range, bytes: Pos) -> Option<Range>
+    ensures { MatchOption result (rest.end < rest.byte_pos + bytes) (λ g. (rest.byte_pos + bytes ≤ rest.end) × (g ≡ record { byte_pos = rest.byte_pos + bytes; end = rest.end })) }
+{
+    let byte_pos = rest.byte_pos.checked_add(bytes)?;
+    if byte_pos <= rest.end {
+        Some(Range { byte_pos, ..rest })
+    } else {
+        None
+    }
 }
 
-#[derive(Clone, Copy)]
-enum PdoItem {
-    One(Pdo, u32),
-    Stop,
-    Bad,
+// Reads the records of the category of this number into the places, from the first on, and answers how many there are: none where there is no category.
+// Refuses what the search for it does; then 5, and 6 if one more record stands there than there are places.
+// The places are lent: the caller says how many there are, and what an unused one holds.
+pub fn read_records<R: Record>(
+    image: &[u8],
+    chunk: Chunk,
+    number: u16,
+    places: &mut [R::Value],
+) -> Result<usize, Refusal>
+    ensures said { said number_value result ≡ count_said (in_category (category_said image.now number) (λ p end. records (R.item_at image.now end) (length places.old) p)) }
+    ensures lent { places.new ≡ overlay places.old 0 (laid_in (category_said image.now number) (λ p end. laid_records (R.item_at image.now end) (length places.old) p)) }
+{
+    let found = category(image, chunk, number)?;
+    read_found::<R>(image, chunk, found, places)
 }
 
-// The two lists of FMMUs.
-#[derive(Clone, Copy)]
-enum FmmuKind {
-    Usage,
-    Ex,
+// .. of the category that was found.
+#[tactic(auto, using(crate::proofs::Laws::nothing), unfolding(crate::specs::Records::in_category, crate::specs::Records::laid_in))]
+fn read_found<R: Record>(
+    image: &[u8],
+    chunk: Chunk,
+    found: Option<Range>,
+    places: &mut [R::Value],
+) -> Result<usize, Refusal>
+    ensures said { said number_value result ≡ count_said (in_category (said_found (Ok found)) (λ p end. records (R.item_at image.now end) (length places.old) p)) }
+    ensures lent { places.new ≡ overlay places.old 0 (laid_in (said_found (Ok found)) (λ p end. laid_records (R.item_at image.now end) (length places.old) p)) }
+{
+    match found {
+        Some(list) => read_all::<R>(image, chunk, list, places),
+        None => Ok(0),
+    }
+}
+
+// .. of a category that stands there.
+fn read_all<R: Record>(
+    image: &[u8],
+    chunk: Chunk,
+    list: Range,
+    places: &mut [R::Value],
+) -> Result<usize, Refusal>
+    ensures said { said number_value result ≡ count_said (records (R.item_at image.now list.end) (length places.old) list.byte_pos) }
+    ensures lent { places.new ≡ overlay places.old 0 (laid_records (R.item_at image.now list.end) (length places.old) list.byte_pos) }
+{
+    let mut rest = list;
+    for (count, place) in places.iter_mut().enumerate() {
+        let Some(record) = R::read(image, chunk, rest)? else {
+            return Ok(count);
+        };
+        (*place, rest) = record;
+    }
+    match R::read(image, chunk, rest)? {
+        Some(_) => Err(Refusal::Capacity),
+        None => Ok(places.len()),
+    }
 }
 
 // ---- sync managers
 
 // The sync managers.
-pub fn sync_managers(image: &[u8], chunk: Chunk) -> SyncManagers
+pub fn sync_managers(image: &[u8], chunk: Chunk) -> Result<SyncManagers, Refusal>
     ensures { back_sms result ≡ back sm_zero sm_most (sms_of image.now) }
 {
-    match category(image, chunk, SYNC_MANAGER) {
-        Found::At(g) => sms_in(image, chunk, g.byte_pos, g.end),
-        Found::Absent => no_sms(ListAnswer::Listed),
-        Found::No(x) => no_sms(ListAnswer::No(x)),
-    }
+    let mut items = [SyncManager::default(); SM_MOST];
+    let count = read_records::<SyncManager>(image, chunk, SYNC_MANAGER, &mut items)?;
+    Ok(SyncManagers { count, items })
 }
 
-fn sm_zero() -> SyncManager
-    ensures { result ≡ sm_zero }
-{
-    SyncManager {
-        start_addr: 0,
-        length_bytes: 0,
-        operation_mode: 0,
-        direction: 0,
-        ecat_event_enable: false,
-        dls_user_event_enable: false,
-        watchdog_enable: false,
-        enable: 0,
-        usage_type: 0,
-    }
-}
+impl Record for SyncManager {
+    type Value = SyncManager;
 
-// An empty list.
-fn no_sms(answer: ListAnswer) -> SyncManagers
-    ensures { result ≡ record { answer = answer; count = 0; items = replicate 8 sm_zero } }
-{
-    let blank = sm_zero();
-    SyncManagers {
-        answer,
-        count: 0,
-        items: [blank; 8],
-    }
-}
+    ghost item_at = { sm_at };
 
-// The list of a category from start to end.
-fn sms_in(image: &[u8], chunk: Chunk, start: u32, end: u32) -> SyncManagers
-    requires { (start ≤ place_most) × (end ≤ place_most) }
-    ensures { back_sms result ≡ back sm_zero sm_most (records (sm_at image.now end) sm_most start) }
-{
-    let none = no_sms(ListAnswer::Listed);
-    let mut items = none.items;
-    let mut count = 0;
-    let mut at = start;
-    loop {
-        match sm_item(image, chunk, at, end) {
-            SmItem::One(sm, next) => {
-                if count < SM_MOST {
-                    items[count] = sm;
-                    count += 1;
-                    at = next;
-                } else {
-                    return no_sms(ListAnswer::No(Refusal::Capacity));
-                }
-            }
-            SmItem::Stop => {
-                return SyncManagers {
-                    answer: ListAnswer::Listed,
-                    count,
-                    items,
-                };
-            }
-            SmItem::Bad => {
-                return no_sms(ListAnswer::No(Refusal::Decode));
-            }
-        }
-    }
-}
-
-#[tactic(auto, unfolding(crate::specs::SyncManagers::sm_at))]
-fn sm_item(image: &[u8], chunk: Chunk, at: u32, end: u32) -> SmItem
-    requires { at ≤ place_most }
-    ensures { item_sm result ≡ sm_at image.now end at }
-{
-    let next = at + SM_BYTES;
-    if next <= end {
-        let sm = sm_at(image, chunk, at);
+    #[tactic(auto, unfolding(crate::specs::SyncManagers::sm_at))]
+    fn read(
+        image: &[u8],
+        chunk: Chunk,
+        rest: Range,
+    ) -> Result<Option<(SyncManager, Range)>, Refusal> {
+        let Some(behind) = rest_behind(rest, SM_BYTES) else {
+            return Ok(None);
+        };
+        let sm = sm_at(image, chunk, rest.byte_pos);
         if sm.enable < ENABLE_BELOW {
-            SmItem::One(sm, next)
+            Ok(Some((sm, behind)))
         } else {
-            SmItem::Bad
+            Err(Refusal::Decode)
         }
-    } else {
-        SmItem::Stop
     }
 }
 
-fn sm_at(image: &[u8], chunk: Chunk, at: u32) -> SyncManager
-    requires { at ≤ place_most }
+#[tactic(auto, unfolding(crate::specs::SyncManagers::sm_of))]
+fn sm_at(image: &[u8], chunk: Chunk, at: Pos) -> SyncManager
+    requires { at + SYNC_M_TYPE < 2 ^ 32 }
     ensures { result ≡ sm_of image.now at }
 {
     let start_addr = word_of(image, chunk, at);
@@ -225,6 +216,7 @@ fn sm_at(image: &[u8], chunk: Chunk, at: u32) -> SyncManager
     }
 }
 
+#[tactic(auto, unfolding(crate::specs::SyncManagers::mode_of))]
 fn mode(control: u8) -> u8
     ensures { result ≡ mode_of control }
 {
@@ -236,6 +228,7 @@ fn mode(control: u8) -> u8
 }
 
 // The usage of a sync manager, as the Rust recovers it where none is given: from its mode and direction.
+#[tactic(auto, unfolding(crate::specs::SyncManagers::usage_type_of))]
 pub fn usage_type(sm: SyncManager) -> u8
     ensures { result ≡ usage_type_of sm }
 {
@@ -250,20 +243,17 @@ pub fn usage_type(sm: SyncManager) -> u8
 fn recovered(mode: u8, direction: u8) -> u8
     ensures { result ≡ recovered mode direction }
 {
-    if mode == MAILBOX_MODE {
-        if direction == 0 {
-            MAILBOX_READ
-        } else {
-            MAILBOX_WRITE
-        }
-    } else if direction == 0 {
-        PROCESS_DATA_READ
-    } else {
-        PROCESS_DATA_WRITE
+    match (mode == MAILBOX_MODE, direction == 0) {
+        (true, true) => MAILBOX_READ,
+        (true, false) => MAILBOX_WRITE,
+        (false, true) => PROCESS_DATA_READ,
+        (false, false) => PROCESS_DATA_WRITE,
     }
 }
 
 // A value of an enum whose listed ones are 0 to the last; one not listed is the default, 0.
+// Not shared with sii's `port_status`, which promises `listed` too: that one takes a u16 and gives a u8, and this one goes from u8 to u8.
+#[tactic(auto, unfolding(sii::specs::General::listed))]
 fn or_default(n: u8, last: u8) -> u8
     ensures { result ≡ listed last n }
 {
@@ -272,105 +262,57 @@ fn or_default(n: u8, last: u8) -> u8
 
 // ---- FMMUs
 
+// The usage of an FMMU: a byte.
+struct FmmuUsage;
+
+// The sync manager of an extended FMMU.
+struct ExtendedFmmu;
+
 // The usage of each FMMU, from the category's first 16 bytes.
-pub fn fmmus(image: &[u8], chunk: Chunk) -> FmmuList
+pub fn fmmus(image: &[u8], chunk: Chunk) -> Result<FmmuList, Refusal>
     ensures { back_fmmus result ≡ back 0 fmmu_most (usages_of image.now) }
 {
-    match category(image, chunk, FMMU) {
-        Found::At(g) => usages_in(image, chunk, g.byte_pos, g.end),
-        Found::Absent => no_fmmus(ListAnswer::Listed),
-        Found::No(x) => no_fmmus(ListAnswer::No(x)),
-    }
+    let found = category(image, chunk, FMMU)?.map(usage_bytes);
+    let mut items = [0; FMMU_MOST];
+    let count = read_found::<FmmuUsage>(image, chunk, found, &mut items)?;
+    Ok(FmmuList { count, items })
 }
 
 // The sync manager of each extended FMMU.
-pub fn fmmu_mappings(image: &[u8], chunk: Chunk) -> FmmuList
+pub fn fmmu_mappings(image: &[u8], chunk: Chunk) -> Result<FmmuList, Refusal>
     ensures { back_fmmus result ≡ back 0 fmmu_most (ex_of image.now) }
 {
-    match category(image, chunk, FMMU_EXTENDED) {
-        Found::At(g) => fmmus_in(image, chunk, FmmuKind::Ex, g.byte_pos, g.end),
-        Found::Absent => no_fmmus(ListAnswer::Listed),
-        Found::No(x) => no_fmmus(ListAnswer::No(x)),
+    let mut items = [0; FMMU_MOST];
+    let count = read_records::<ExtendedFmmu>(image, chunk, FMMU_EXTENDED, &mut items)?;
+    Ok(FmmuList { count, items })
+}
+
+// The bytes of a category that are looked at for usages: its first 16.
+fn usage_bytes(g: Range) -> Range
+    ensures { result ≡ record { byte_pos = g.byte_pos; end = min g.end (g.byte_pos + fmmu_most) } }
+{
+    Range {
+        end: g.end.min(g.byte_pos.saturating_add(FMMU_MOST as Pos)),
+        ..g
     }
 }
 
-// An empty list.
-fn no_fmmus(answer: ListAnswer) -> FmmuList
-    ensures { result ≡ record { answer = answer; count = 0; items = replicate 16 0 } }
-{
-    FmmuList {
-        answer,
-        count: 0,
-        items: [0; 16],
-    }
-}
+impl Record for FmmuUsage {
+    type Value = u8;
 
-fn usages_in(image: &[u8], chunk: Chunk, start: u32, end: u32) -> FmmuList
-    requires { (start ≤ place_most) × (end ≤ place_most) }
-    ensures { back_fmmus result ≡ back 0 fmmu_most (records (usage_at image.now (min end (start + fmmu_most))) fmmu_most start) }
-{
-    let stop = wire::lesser(end as usize, start as usize + FMMU_MOST) as u32;
-    fmmus_in(image, chunk, FmmuKind::Usage, start, stop)
-}
+    ghost item_at = { usage_at };
 
-// The list of a category from start to end.
-fn fmmus_in(image: &[u8], chunk: Chunk, kind: FmmuKind, start: u32, end: u32) -> FmmuList
-    requires { (start ≤ place_most) × (end ≤ place_most) }
-    ensures { back_fmmus result ≡ back 0 fmmu_most (records (fmmu_at kind image.now end) fmmu_most start) }
-{
-    let none = no_fmmus(ListAnswer::Listed);
-    let mut items = none.items;
-    let mut count = 0;
-    let mut at = start;
-    loop {
-        match fmmu_item(image, chunk, kind, at, end) {
-            FmmuItem::One(value, next) => {
-                if count < FMMU_MOST {
-                    items[count] = value;
-                    count += 1;
-                    at = next;
-                } else {
-                    return no_fmmus(ListAnswer::No(Refusal::Capacity));
-                }
-            }
-            FmmuItem::Stop => {
-                return FmmuList {
-                    answer: ListAnswer::Listed,
-                    count,
-                    items,
-                };
-            }
-            FmmuItem::Bad => {
-                return no_fmmus(ListAnswer::No(Refusal::Decode));
-            }
-        }
-    }
-}
-
-fn fmmu_item(image: &[u8], chunk: Chunk, kind: FmmuKind, at: u32, end: u32) -> FmmuItem
-    requires { at ≤ place_most }
-    ensures { item_fmmu result ≡ fmmu_at kind image.now end at }
-{
-    match kind {
-        FmmuKind::Usage => usage_item(image, chunk, at, end),
-        FmmuKind::Ex => ex_item(image, chunk, at, end),
-    }
-}
-
-fn usage_item(image: &[u8], chunk: Chunk, at: u32, end: u32) -> FmmuItem
-    requires { at ≤ place_most }
-    ensures { item_fmmu result ≡ usage_at image.now end at }
-{
-    let next = at + FMMU_BYTES;
-    if next <= end {
-        let usage = byte_of(image, chunk, at);
+    #[tactic(auto, unfolding(crate::specs::Fmmus::usage_at))]
+    fn read(image: &[u8], chunk: Chunk, rest: Range) -> Result<Option<(u8, Range)>, Refusal> {
+        let Some(behind) = rest_behind(rest, FMMU_BYTES) else {
+            return Ok(None);
+        };
+        let usage = byte_of(image, chunk, rest.byte_pos);
         if usage_admitted(usage) {
-            FmmuItem::One(or_default(usage, FMMU_USAGE_LAST), next)
+            Ok(Some((or_default(usage, FMMU_USAGE_LAST), behind)))
         } else {
-            FmmuItem::Bad
+            Err(Refusal::Decode)
         }
-    } else {
-        FmmuItem::Stop
     }
 }
 
@@ -378,129 +320,75 @@ fn usage_item(image: &[u8], chunk: Chunk, at: u32, end: u32) -> FmmuItem
 fn usage_admitted(usage: u8) -> bool
     ensures { result ≡ usage_admits usage }
 {
-    if usage <= FMMU_USAGE_LAST {
-        true
-    } else {
-        usage == FMMU_UNUSED
-    }
+    usage <= FMMU_USAGE_LAST || usage == FMMU_UNUSED
 }
 
-fn ex_item(image: &[u8], chunk: Chunk, at: u32, end: u32) -> FmmuItem
-    requires { at ≤ place_most }
-    ensures { item_fmmu result ≡ ex_at image.now end at }
-{
-    let next = at + EX_BYTES;
-    if next <= end {
-        FmmuItem::One(byte_of(image, chunk, at + EX_SYNC_M), next)
-    } else {
-        FmmuItem::Stop
+impl Record for ExtendedFmmu {
+    type Value = u8;
+
+    ghost item_at = { ex_at };
+
+    #[tactic(auto, unfolding(crate::specs::Fmmus::ex_at))]
+    fn read(image: &[u8], chunk: Chunk, rest: Range) -> Result<Option<(u8, Range)>, Refusal> {
+        let Some(behind) = rest_behind(rest, EX_BYTES) else {
+            return Ok(None);
+        };
+        let sync_manager = byte_of(image, chunk, rest.byte_pos + EX_SYNC_M);
+        Ok(Some((sync_manager, behind)))
     }
 }
 
 // ---- PDOs
 
 // The PDOs that the MainDevice reads: TxPDO.
-pub fn maindevice_read_pdos(image: &[u8], chunk: Chunk) -> PdoList
+pub fn maindevice_read_pdos(image: &[u8], chunk: Chunk) -> Result<PdoList, Refusal>
     ensures { back_pdos result ≡ back pdo_zero pdo_most (pdos_of image.now tx_pdo) }
 {
     pdos(image, chunk, TX_PDO)
 }
 
 // The PDOs that the MainDevice writes: RxPDO.
-pub fn maindevice_write_pdos(image: &[u8], chunk: Chunk) -> PdoList
+pub fn maindevice_write_pdos(image: &[u8], chunk: Chunk) -> Result<PdoList, Refusal>
     ensures { back_pdos result ≡ back pdo_zero pdo_most (pdos_of image.now rx_pdo) }
 {
     pdos(image, chunk, RX_PDO)
 }
 
-fn pdos(image: &[u8], chunk: Chunk, number: u16) -> PdoList
+fn pdos(image: &[u8], chunk: Chunk, number: u16) -> Result<PdoList, Refusal>
     ensures { back_pdos result ≡ back pdo_zero pdo_most (pdos_of image.now number) }
 {
-    match category(image, chunk, number) {
-        Found::At(g) => pdos_in(image, chunk, g.byte_pos, g.end),
-        Found::Absent => no_pdos(ListAnswer::Listed),
-        Found::No(x) => no_pdos(ListAnswer::No(x)),
+    let mut items = [Pdo::default(); PDO_MOST];
+    let count = read_records::<Pdo>(image, chunk, number, &mut items)?;
+    Ok(PdoList { count, items })
+}
+
+impl Record for Pdo {
+    type Value = Pdo;
+
+    ghost item_at = { pdo_at };
+
+    #[tactic(auto, unfolding(crate::specs::Pdos::pdo_at))]
+    fn read(image: &[u8], chunk: Chunk, rest: Range) -> Result<Option<(Pdo, Range)>, Refusal> {
+        let Some(body) = rest_behind(rest, PDO_BYTES) else {
+            return Ok(None);
+        };
+        let n = entries(image, chunk, rest.byte_pos);
+        let behind = rest_behind(body, ENTRY_BYTES * Pos::from(n)).ok_or(Refusal::Decode)?;
+        Ok(Some((pdo_at(image, chunk, rest.byte_pos, n), behind)))
     }
 }
 
-// An empty list.
-fn no_pdos(answer: ListAnswer) -> PdoList
-    ensures { result ≡ record { answer = answer; count = 0; items = replicate 64 pdo_zero } }
-{
-    let blank = Pdo {
-        index: 0,
-        num_entries: 0,
-        sync_manager: 0,
-        bit_len: 0,
-    };
-    PdoList {
-        answer,
-        count: 0,
-        items: [blank; 64],
-    }
-}
-
-// The list of a category from start to end.
-fn pdos_in(image: &[u8], chunk: Chunk, start: u32, end: u32) -> PdoList
-    requires { (start ≤ place_most) × (end ≤ place_most) }
-    ensures { back_pdos result ≡ back pdo_zero pdo_most (records (pdo_at image.now end) pdo_most start) }
-{
-    let none = no_pdos(ListAnswer::Listed);
-    let mut items = none.items;
-    let mut count = 0;
-    let mut at = start;
-    loop {
-        match pdo_item(image, chunk, at, end) {
-            PdoItem::One(pdo, next) => {
-                if count < PDO_MOST {
-                    items[count] = pdo;
-                    count += 1;
-                    at = next;
-                } else {
-                    return no_pdos(ListAnswer::No(Refusal::Capacity));
-                }
-            }
-            PdoItem::Stop => {
-                return PdoList {
-                    answer: ListAnswer::Listed,
-                    count,
-                    items,
-                };
-            }
-            PdoItem::Bad => {
-                return no_pdos(ListAnswer::No(Refusal::Decode));
-            }
-        }
-    }
-}
-
-fn pdo_item(image: &[u8], chunk: Chunk, at: u32, end: u32) -> PdoItem
-    requires { at ≤ place_most }
-    ensures { item_pdo result ≡ pdo_at image.now end at }
-{
-    let body = at + PDO_BYTES;
-    if body <= end {
-        let n = entries(image, chunk, at);
-        let next = body + ENTRY_BYTES * (n as u32);
-        if next <= end {
-            PdoItem::One(pdo_at(image, chunk, at, n), next)
-        } else {
-            PdoItem::Bad
-        }
-    } else {
-        PdoItem::Stop
-    }
-}
-
-fn entries(image: &[u8], chunk: Chunk, at: u32) -> u8
-    requires { at ≤ place_most }
+#[tactic(auto, unfolding(crate::specs::Pdos::entries_of))]
+fn entries(image: &[u8], chunk: Chunk, at: Pos) -> u8
+    requires { at + PDO_BYTES < 2 ^ 32 }
     ensures { result ≡ entries_of image.now at }
 {
     byte_of(image, chunk, at + N_ENTRY)
 }
 
-fn pdo_at(image: &[u8], chunk: Chunk, at: u32, n: u8) -> Pdo
-    requires { (at ≤ place_most) × (n ≡ entries_of image.now at) }
+#[tactic(auto, unfolding(crate::specs::Pdos::pdo_of))]
+fn pdo_at(image: &[u8], chunk: Chunk, at: Pos, n: u8) -> Pdo
+    requires { (entry_at at n < 2 ^ 32) × (n ≡ entries_of image.now at) }
     ensures { result ≡ pdo_of image.now at }
 {
     Pdo {
@@ -512,49 +400,45 @@ fn pdo_at(image: &[u8], chunk: Chunk, at: u32, n: u8) -> Pdo
 }
 
 // The sum of the bit lengths of the first n entries of the PDO at a position.
-fn bits(image: &[u8], chunk: Chunk, at: u32, n: u8) -> u16
-    requires { at ≤ place_most }
+#[tactic(auto, using(crate::proofs::Reading::sums))]
+fn bits(image: &[u8], chunk: Chunk, at: Pos, n: u8) -> u16
+    requires { entry_at at n < 2 ^ 32 }
     ensures { result ≡ sum_to (entry_bits image.now at) n }
 {
-    let mut sum: u16 = 0;
-    let mut k: u8 = 0;
-    while k < n {
-        let b = entry_bits(image, chunk, at, k);
-        sum += b as u16;
-        k += 1;
+    let mut sum = 0;
+    for k in 0..n {
+        sum += u16::from(entry_bits(image, chunk, at, k));
     }
     sum
 }
 
-fn entry_bits(image: &[u8], chunk: Chunk, at: u32, k: u8) -> u8
-    requires { at ≤ place_most }
+#[tactic(auto, unfolding(crate::specs::Pdos::entry_bits))]
+fn entry_bits(image: &[u8], chunk: Chunk, at: Pos, k: u8) -> u8
+    requires { entry_at at (k + 1) < 2 ^ 32 }
     ensures { result ≡ entry_bits image.now at k }
 {
     byte_of(
         image,
         chunk,
-        at + PDO_BYTES + ENTRY_BYTES * (k as u32) + BIT_LENGTH,
+        at + PDO_BYTES + ENTRY_BYTES * Pos::from(k) + BIT_LENGTH,
     )
 }
 
-// ---- each record as the numbers that a list gives of it, in their order
+// ---- each record as the numbers that a list gives of it, in their order: functions by their names and no `From`, since each is a public call with a row in `pinned`
 
 pub fn sync_manager_row(s: SyncManager) -> [u64; 9]
     ensures { result ≡ sm_values s }
 {
-    let ecat_event = flag(s.ecat_event_enable);
-    let dls_user_event = flag(s.dls_user_event_enable);
-    let watchdog = flag(s.watchdog_enable);
     [
-        s.start_addr as u64,
-        s.length_bytes as u64,
-        s.operation_mode as u64,
-        s.direction as u64,
-        ecat_event,
-        dls_user_event,
-        watchdog,
-        s.enable as u64,
-        s.usage_type as u64,
+        u64::from(s.start_addr),
+        u64::from(s.length_bytes),
+        u64::from(s.operation_mode),
+        u64::from(s.direction),
+        u64::from(s.ecat_event_enable),
+        u64::from(s.dls_user_event_enable),
+        u64::from(s.watchdog_enable),
+        u64::from(s.enable),
+        u64::from(s.usage_type),
     ]
 }
 
@@ -562,9 +446,9 @@ pub fn pdo_row(p: Pdo) -> [u64; 4]
     ensures { result ≡ pdo_values p }
 {
     [
-        p.index as u64,
-        p.num_entries as u64,
-        p.sync_manager as u64,
-        p.bit_len as u64,
+        u64::from(p.index),
+        u64::from(p.num_entries),
+        u64::from(p.sync_manager),
+        u64::from(p.bit_len),
     ]
 }

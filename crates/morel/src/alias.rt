@@ -1,97 +1,69 @@
 // `morel alias`: writes the station alias and the checksum into an image's file, if its checksum is right.
 use crate::file::open;
 use crate::image::checksum_right;
-use crate::status::{ANSWERED, WRONG};
-use crate::text::{WHOLE, error, front, line, no, record, refused};
-use sii::AliasSet;
-use std::alloc::AllocGlobal;
+use crate::report::Report;
+use crate::shown::Hex;
 use std::fs::{File, OpenOptions};
 use std::os::unix::fs::FileExt;
 use std::rt::Files;
-use wire::byte_at;
 
-// The bytes of alias and checksum.
-#[derive(Clone, Copy)]
-struct Bytes {
-    low: u8,
-    high: u8,
-    sum: u8,
-    zero: u8,
-}
+// The image's front, in which alias and checksum stand.
+type Front = [u8; 16];
 
-fn bytes_of(image: &[u8]) -> Bytes {
-    Bytes {
-        low: byte_at(image, 8),
-        high: byte_at(image, 9),
-        sum: byte_at(image, 14),
-        zero: byte_at(image, 15),
-    }
+// Of an image that is shorter no alias can be set.
+fn front_of(image: &[u8]) -> Front {
+    image.first_chunk().copied().unwrap_or([0; 16])
 }
 
 // Nothing is written where the number is none of 16 bits, nor where setting the alias is refused.
 pub(crate) fn set<R: Files<File = File> + Print + Eprint + AllocGlobal>(
-    rt: &R,
+    report: &mut Report<'_, R>,
     path: &[u8],
     image: &mut [u8],
-    alias: u64,
+    number: Option<u16>,
     force: bool,
-) -> u8 {
-    if 65535 < alias {
-        return error(rt, b"N is no number from 0 to 65535");
+) {
+    let Some(alias) = number else {
+        report.error("N is no number from 0 to 65535");
+        return;
+    };
+    let is_right = checksum_right(image);
+    let before = front_of(image);
+    if let Err(refusal) = sii::set_station_alias(image, alias) {
+        report.refused("alias", refusal);
+        return;
     }
-    let before = bytes_of(image);
-    let right = checksum_right(image);
-    match sii::set_station_alias(image, alias as u16) {
-        AliasSet::Done => {
-            if may_write(rt, right, force) {
-                store(rt, path, image, alias, before)
-            } else {
-                WRONG
-            }
-        }
-        AliasSet::No(x) => refused(rt, WHOLE, b"alias", no(x)),
+    if !may_write(report, is_right, force) {
+        return;
+    }
+    let after = front_of(image);
+    if written(report.rt(), path, &after) {
+        changes(report, &before, &after);
+        report.line("alias written", alias);
+    } else {
+        report.error("the file cannot be written");
     }
 }
 
 // Says whether the checksum was right. A file that has a wrong one may be no image at all: it is left alone unless the caller insists.
-fn may_write(rt: &impl Print, right: bool, force: bool) -> bool {
-    if right {
-        line(rt, b"checksum before", b"right");
-        return true;
-    }
-    line(rt, b"checksum before", b"wrong");
-    if !force {
-        line(
-            rt,
-            b"alias",
-            b"not written: the checksum is wrong; add the word force to write it anyway",
+fn may_write(report: &mut Report<'_, impl Print>, is_right: bool, force: bool) -> bool {
+    report.line("checksum before", if is_right { "right" } else { "wrong" });
+    let may = is_right || force;
+    if !may {
+        report.line(
+            "alias",
+            "not written: the checksum is wrong; add the word force to write it anyway",
         );
+        report.wrong();
     }
-    force
+    may
 }
 
-// The image's first sixteen bytes go into the file by one call: alias and checksum change together.
-fn store<R: Files<File = File> + Print + Eprint + AllocGlobal>(
-    rt: &R,
-    path: &[u8],
-    image: &[u8],
-    alias: u64,
-    before: Bytes,
-) -> u8 {
-    if written(rt, path, front(image, 16)) {
-        changes(rt, before, bytes_of(image));
-        record(rt, WHOLE, 0, b"dalias written", &[alias]);
-        ANSWERED
-    } else {
-        error(rt, b"the file cannot be written")
-    }
-}
-
-// Whether these bytes stand at the front of the file, which is neither made nor cut.
+// Whether these bytes stand at the front of the file, which is neither made nor cut. They go there by one call: alias and checksum change together.
 fn written<R: Files<File = File> + Eprint + AllocGlobal>(
     rt: &R,
     path: &[u8],
-    bytes: &[u8],
+    bytes: &Front,
 ) -> bool {
     match open(rt, OpenOptions::new().read(true).write(true), path) {
         Some(file) => matches!(file.write_at(bytes, 0), Ok(16)),
@@ -99,22 +71,12 @@ fn written<R: Files<File = File> + Eprint + AllocGlobal>(
     }
 }
 
-fn changes(rt: &impl Print, before: Bytes, after: Bytes) {
-    change(rt, 8, before.low, after.low);
-    change(rt, 9, before.high, after.high);
-    change(rt, 14, before.sum, after.sum);
-    change(rt, 15, before.zero, after.zero);
-}
-
-// A byte that changed: its place, what stood there and what stands there.
-fn change(rt: &impl Print, place: usize, before: u8, after: u8) {
-    if before != after {
-        record(
-            rt,
-            WHOLE,
-            place,
-            b"2byte # before,2byte # after",
-            &[before as u64, after as u64],
-        );
+// The bytes that changed: the place of each, what stood there and what stands there.
+fn changes(report: &mut Report<'_, impl Print>, before: &Front, after: &Front) {
+    for (place, (old, new)) in before.iter().zip(after.iter()).enumerate() {
+        if old != new {
+            report.item("byte", place, "before", Hex::from(*old));
+            report.item("byte", place, "after", Hex::from(*new));
+        }
     }
 }

@@ -1,64 +1,44 @@
 // `morel frame`: the PDUs of a frame.
-use crate::status::ANSWERED;
-use crate::text::{WHOLE, back, bytes, end, front, label, no, record, refused, say};
-use frame_reader::{FrameAnswer, FrameRead};
+use crate::report::Report;
+use crate::shown::{Bytes, Hex, Named, YesOrNo};
 use pdu::PduFields;
-use wire::lesser;
 
-pub(crate) fn print(rt: &impl Print, frame: &[u8]) -> u8 {
-    let r = frame_reader::read_frame(frame);
-    let answer = r.answer;
-    match answer {
-        FrameAnswer::Frame => pdus(rt, frame, r),
-        FrameAnswer::No(x) => refused(rt, WHOLE, b"pdus", no(x)),
+pub(crate) const COMMANDS: [&str; 15] = [
+    "NOP", "APRD", "APWR", "APRW", "FPRD", "FPWR", "FPRW", "BRD", "BWR", "BRW", "LRD", "LWR",
+    "LRW", "ARMW", "FRMW",
+];
+
+pub(crate) fn print(report: &mut Report<'_, impl Print>, frame: &[u8]) {
+    if let Some(read) = report.record("pdus", false, frame_reader::read_frame(frame)) {
+        report.line("pdus", read.count);
+        for (i, pdu) in read.pdus.iter().take(read.count).enumerate() {
+            fields(report, i, pdu);
+            payload(report, i, bytes(frame, pdu));
+        }
     }
 }
 
-fn pdu(p: PduFields) -> [u64; 8] {
-    [
-        p.command as u64,
-        p.index as u64,
-        p.address as u64,
-        p.len as u64,
-        p.circulated as u64,
-        p.more_follows as u64,
-        p.irq as u64,
-        p.counter as u64,
-    ]
+fn fields(report: &mut Report<'_, impl Print>, i: usize, pdu: &PduFields) {
+    report.item("pdu", i, "command", Named(pdu.command, &COMMANDS));
+    report.item("pdu", i, "index", pdu.index);
+    report.item("pdu", i, "address", Hex::from(pdu.address));
+    report.item("pdu", i, "bytes", pdu.len);
+    report.item("pdu", i, "circulating", YesOrNo(pdu.circulated));
+    report.item("pdu", i, "more follows", YesOrNo(pdu.more_follows));
+    report.item("pdu", i, "irq", Hex::from(pdu.irq));
+    report.item("pdu", i, "working counter", pdu.counter);
 }
 
-fn pdus(rt: &impl Print, frame: &[u8], r: FrameRead) -> u8 {
-    let items = r.pdus;
-    let n = lesser(r.count, 170);
-    record(rt, WHOLE, 0, b"dpdus", &[n as u64]);
-    let mut i = 0;
-    while i < n {
-        record(
-            rt,
-            WHOLE,
-            i,
-            b"vpdu # command=NOP APRD APWR APRW FPRD FPWR FPRW BRD BWR BRW LRD LWR LRW ARMW FRMW,\
-              dpdu # index,\
-              8pdu # address,\
-              dpdu # bytes,\
-              npdu # circulating=no yes,\
-              npdu # more follows=no yes,\
-              4pdu # irq,\
-              dpdu # working counter",
-            &pdu(items[i]),
-        );
-        payload(rt, frame, i, items[i]);
-        i += 1;
+fn payload(report: &mut Report<'_, impl Print>, i: usize, bytes: &[u8]) {
+    if bytes.is_empty() {
+        report.item("pdu", i, "payload", "-");
+    } else {
+        report.item("pdu", i, "payload", Bytes(bytes));
     }
-    ANSWERED
 }
 
-fn payload(rt: &impl Print, frame: &[u8], i: usize, p: PduFields) {
-    let len = p.len as usize;
-    label(rt, i, b"pdu # payload");
-    if len == 0 {
-        say(rt, b"-");
-    }
-    bytes(rt, front(back(frame, p.place), len));
-    end(rt, WHOLE);
+// A PDU's payload, which lies whole in its frame.
+fn bytes<'a>(frame: &'a [u8], pdu: &PduFields) -> &'a [u8] {
+    let rest = frame.get(pdu.place..).unwrap_or(&[]);
+    rest.get(..usize::from(pdu.len)).unwrap_or(rest)
 }

@@ -1,93 +1,87 @@
 // `morel spread`: how a process image is cut over fresh areas, and the frames. Logical writes, from address 0 on.
-use crate::status::ANSWERED;
-use crate::text::{WHOLE, back, bytes, end, error, front, front_mut, label, no, record, refused};
-use crate::words::UNREADABLE;
+use crate::frame::COMMANDS;
+use crate::report::Report;
+use crate::shown::{Bytes, Hex, Named};
 use created_frame::Builder;
-use pdu::AREA_MOST;
-use spread::{SpreadAnswer, Spreading};
-use std::num::{wrapping_add_usize, wrapping_sub_usize};
-use wire::lesser;
+use pdu::{AREA_MOST, PDU_OVERHEAD_BYTES};
+use std::alloc::AllocError;
+
+// The PDUs' command, by the number that `spread` takes, and the address of the first.
+const LWR: u8 = 11;
+
+const ADDRESS: u32 = 0;
+
+// The most areas that a row may have.
+const AREAS_MOST: u32 = 32;
+
+// An area that no PDU is in.
+const FRESH: Builder = Builder {
+    used: 0,
+    count: 0,
+    last: 0,
+};
+
+pub(crate) fn cut<R: Print + AllocGlobal>(
+    report: &mut Report<'_, R>,
+    image: &[u8],
+    size: Option<u32>,
+    areas: Option<u32>,
+) -> Result<(), AllocError> {
+    let Some(size) = size else {
+        report.error("SIZE is no number of 32 bits");
+        return Ok(());
+    };
+    let Some(areas) = areas else {
+        report.error("AREAS is no number of 32 bits");
+        return Ok(());
+    };
+    report.line("area bytes", size);
+    report.line("areas", areas);
+    report.line("pdu command", Named(LWR, &COMMANDS));
+    report.line("pdu address", Hex::from(ADDRESS));
+    let mut row = vec![in report.rt().alloc(); 0u8; row_bytes(size, areas)]?;
+    spread_over(report, image, size as usize, row.as_mut_slice());
+    Ok(())
+}
 
 // The bytes of a row of areas. None where the bounds are passed: spreading over no area is refused as it is over such a row.
-fn row(size: u64, areas: u64) -> usize {
-    if (AREA_MOST as u64) < size {
-        0
-    } else if 32 < areas {
+fn row_bytes(size: u32, areas: u32) -> usize {
+    if (AREA_MOST as u32) < size || AREAS_MOST < areas {
         0
     } else {
         (size * areas) as usize
     }
 }
 
-pub(crate) fn cut(rt: &impl Print, image: &[u8], size: u64, areas: u64) -> u8 {
-    if size == UNREADABLE {
-        return error(rt, b"SIZE is no number of 32 bits");
-    }
-    if areas == UNREADABLE {
-        return error(rt, b"AREAS is no number of 32 bits");
-    }
-    record(
-        rt,
-        WHOLE,
-        0,
-        b"darea bytes,dareas,vpdu command=- - - - - - - - - - - LWR,8pdu address",
-        &[size, areas, 11, 0],
-    );
-    spread_over(rt, image, size as usize, row(size, areas))
-}
-
-fn spread_over(rt: &impl Print, image: &[u8], size: usize, total: usize) -> u8 {
-    let mut areas = [0u8; 65536];
-    let none = Builder {
-        used: 0,
-        count: 0,
-        last: 0,
+fn spread_over(report: &mut Report<'_, impl Print>, image: &[u8], size: usize, row: &mut [u8]) {
+    let spreading = spread::spread(row, size, FRESH, 0, LWR, ADDRESS, image);
+    let Some(last) = report.record("last area", false, spreading.answer) else {
+        return;
     };
-    let r = spread::spread(front_mut(&mut areas, total), size, none, 0, 11, 0, image);
-    said(rt, &areas, size, r)
-}
-
-fn said(rt: &impl Print, areas: &[u8], size: usize, r: Spreading) -> u8 {
-    let answer = r.answer;
-    match answer {
-        SpreadAnswer::Last(n) => pieces(rt, areas, size, r, n),
-        SpreadAnswer::No(x) => refused(rt, WHOLE, b"last area", no(x)),
+    report.line("last area", last);
+    let mut from = 0usize;
+    // A size of 0 is refused.
+    let areas = row.chunks(size.max(1));
+    for (place, (state, area)) in spreading.states.iter().zip(areas).take(last).enumerate() {
+        piece(report, place, from, area.get(..state.used).unwrap_or(area));
+        from = from.saturating_add(carried(state.used));
     }
 }
 
-fn pieces(rt: &impl Print, areas: &[u8], size: usize, r: Spreading, last: usize) -> u8 {
-    let states = r.states;
-    let n = lesser(last, 32);
-    record(rt, WHOLE, 0, b"dlast area", &[n as u64]);
-    let mut at = 0;
-    let mut sent = 0;
-    let mut i = 0;
-    while i < n {
-        let b = states[i];
-        let used = b.used;
-        piece(rt, i, sent, used, back(areas, at));
-        at = wrapping_add_usize(at, size);
-        sent = wrapping_add_usize(sent, wrapping_sub_usize(used, 12));
-        i += 1;
-    }
-    ANSWERED
+// How many bytes of the image an area carries that has so many bytes used.
+fn carried(used: usize) -> usize {
+    used.saturating_sub(PDU_OVERHEAD_BYTES)
 }
 
 // An area's piece of the image, and its frame: header and PDUs. Areas count from 1, the indices of their PDUs from 0.
-fn piece(rt: &impl Print, i: usize, sent: usize, used: usize, area: &[u8]) {
-    let number = wrapping_add_usize(i, 1);
-    let carried = wrapping_sub_usize(used, 12);
-    record(
-        rt,
-        WHOLE,
-        number,
-        b"darea # pdu index,darea # image from,darea # image bytes",
-        &[i as u64, sent as u64, carried as u64],
-    );
-    label(rt, number, b"area # frame");
-    let head = pdu::frame_header(used);
-    let header = head.bytes;
-    bytes(rt, &header);
-    bytes(rt, front(area, used));
-    end(rt, WHOLE);
+fn piece(report: &mut Report<'_, impl Print>, place: usize, from: usize, pdus: &[u8]) {
+    let number = place.saturating_add(1);
+    report.item("area", number, "pdu index", place);
+    report.item("area", number, "image from", from);
+    report.item("area", number, "image bytes", carried(pdus.len()));
+    let label = format_args!("area {number} frame");
+    match pdu::frame_header(pdus.len()) {
+        Ok(header) => report.line(label, format_args!("{}{}", Bytes(&header), Bytes(pdus))),
+        Err(refusal) => report.refused(label, refusal),
+    }
 }

@@ -1,91 +1,76 @@
 // The strings of an image: the device's name and description, and all strings of the category.
 use crate::cut::category_cut;
-use crate::status::worse;
-use crate::text::{end, front, label, no, of_cut, plain, record, refusal, refused, say};
-use category::Found;
+use crate::report::Report;
+use crate::shown::Plain;
+use category::STRINGS;
 use eeprom::{Chunk, Range};
-use strings::StringAnswer;
+use refusal::Refusal;
+use std::fmt::Display;
 
-// Which string is asked for.
-const NAME: u8 = 0;
-
-const DESCRIPTION: u8 = 1;
-
-const STRING: u8 = 2;
-
-fn asked(image: &[u8], which: u8, i: u8, room: &mut [u8]) -> StringAnswer {
-    match which {
-        NAME => strings::device_name(image, Chunk::Eight, room),
-        DESCRIPTION => strings::device_description(image, Chunk::Eight, room),
-        _ => strings::find_string(image, Chunk::Eight, i, room),
+// Name and description rest on General too.
+pub(crate) fn print(report: &mut Report<'_, impl Print>, image: &[u8], general_cut: bool) {
+    let cut = category_cut(image, STRINGS);
+    report.mark(general_cut || cut);
+    string(
+        report,
+        "device name",
+        |room| strings::device_name(image, Chunk::Eight, room),
+    );
+    string(
+        report,
+        "device description",
+        |room| strings::device_description(image, Chunk::Eight, room),
+    );
+    let Some(found) = report.record(
+        "strings",
+        cut,
+        category::category(image, Chunk::Eight, STRINGS),
+    ) else {
+        return;
+    };
+    match found {
+        Some(range) => all(report, image, range),
+        None => report.line("strings", "absent"),
     }
-}
-
-// A string's line, with i in the place of a `#` of its label.
-fn string(rt: &impl Print, image: &[u8], cut: bool, which: u8, i: u8, name: &[u8]) -> u8 {
-    let mut room = [0u8; 255];
-    let r = asked(image, which, i, &mut room);
-    label(rt, i as usize, name);
-    match r {
-        StringAnswer::Length(n) => found(rt, cut, front(&room, n as usize)),
-        StringAnswer::Absent => absent(rt, cut),
-        StringAnswer::No(x) => refusal(rt, cut, no(x)),
-    }
-}
-
-fn found(rt: &impl Print, cut: bool, text: &[u8]) -> u8 {
-    plain(rt, text);
-    end(rt, cut);
-    of_cut(cut)
-}
-
-fn absent(rt: &impl Print, cut: bool) -> u8 {
-    say(rt, b"absent");
-    end(rt, cut);
-    of_cut(cut)
 }
 
 // The strings up to the number that the category's first byte gives.
-fn all(rt: &impl Print, image: &[u8], cut: bool, count: u8) -> u8 {
-    let mut status = record(rt, cut, 0, b"dstrings", &[count as u64]);
-    let mut i: u8 = 0;
-    while i < count {
-        i += 1;
-        status = worse(status, string(rt, image, cut, STRING, i, b"string #"));
+fn all(report: &mut Report<'_, impl Print>, image: &[u8], range: Range) {
+    let count = count(image, range);
+    report.line("strings", count);
+    for i in 1..=count {
+        string(
+            report,
+            format_args!("string {i}"),
+            |room| strings::find_string(image, Chunk::Eight, i, room),
+        );
     }
-    status
 }
 
 // The category's first byte; an empty category has none, and no string.
-fn count(image: &[u8], g: Range) -> u8 {
-    if g.byte_pos == g.end {
+fn count(image: &[u8], range: Range) -> u8 {
+    if range.byte_pos == range.end {
         0
     } else {
-        eeprom::byte_of(image, Chunk::Eight, g.byte_pos)
+        eeprom::byte_of(image, Chunk::Eight, range.byte_pos)
     }
 }
 
-fn category(rt: &impl Print, image: &[u8], cut: bool) -> u8 {
-    match category::category(image, Chunk::Eight, category::STRINGS) {
-        Found::At(g) => all(rt, image, cut, count(image, g)),
-        Found::Absent => {
-            label(rt, 0, b"strings");
-            absent(rt, cut)
-        }
-        Found::No(x) => refused(rt, cut, b"strings", no(x)),
+// A string's line. The crate below allocates nothing: it lays the string into a lent room and answers its length, which is at most 255.
+fn string<F: FnOnce(&mut [u8]) -> Result<Option<u16>, Refusal>>(
+    report: &mut Report<'_, impl Print>,
+    label: impl Display + Drop,
+    find: F,
+)
+    requires { F.IsAlwaysCallable find }
+{
+    let mut room = [0u8; 255];
+    match find(&mut room) {
+        Ok(Some(length)) => report.line(
+            label,
+            Plain(room.get(..usize::from(length)).unwrap_or(&room)),
+        ),
+        Ok(None) => report.line(label, "absent"),
+        Err(refusal) => report.refused(label, refusal),
     }
-}
-
-// Name and description rest on General too.
-fn named_cut(general_cut: bool, cut: bool) -> bool {
-    if general_cut { true } else { cut }
-}
-
-pub(crate) fn print(rt: &impl Print, image: &[u8], general_cut: bool) -> u8 {
-    let cut = category_cut(image, category::STRINGS);
-    let named = named_cut(general_cut, cut);
-    let name = string(rt, image, named, NAME, 0, b"device name");
-    let description = string(rt, image, named, DESCRIPTION, 0, b"device description");
-    let strings = category(rt, image, cut);
-    worse(name, worse(description, strings))
 }

@@ -6,11 +6,13 @@ use native.Mathlib.Omega.{arith}
 use mathlib.Core.List.{List, [], ◌∷◌, map}
 use lib.ListN.{length}
 use lib.Dec.{ltb, eqb}
-use borrow.Author.Tests.{lt-ltb, le-ltb, le-leb, lt-leb, eq-eqb, ne_eqb, ltb-true, ltb-false, eqb-true, eqb-false}
+use borrow.Author.Tests.{lt-ltb, le-ltb, le-leb, lt-leb, eq-eqb, ne_eqb, ltb-true, ltb-false, eqb-true, eqb-false, leb-true}
+use Rattle.std.specs.Prelude.{Some, None}
 use Rattle.refusal.specs.Said.{pick}
+use Rattle.refusal.proofs.Tests.{both}
 use Rattle.wire.specs.Bytes.{le16}
 use Rattle.pdu.specs.declared.PduFields.{PduFields}
-use Rattle.pdu.specs.Read.{length_of, pdu_end, rightly, Places, good, bad, before, body_at, places_at, headed, frame_of, seen_at, read, read_of}
+use Rattle.pdu.specs.Read.{length_of, pdu_end, pdus_end, rightly, Places, good, bad, before, body_at, places_at, headed, frame_of, seen_at, read, read_of}
 
 -- ---- a PDU that ends rightly
 
@@ -159,6 +161,21 @@ module _ (s : List ℕ) where
   unfolding frame_of
   frame_type le ne = rw (headed_type le ne)
 
+  -- where the PDUs end is known of a frame that is headed, and of no other
+  pub end_none : pdus_end s ≡ None → headed s ≡ false
+  end_none e = go (headed s) refl e
+    where
+      go : (b : Bool) → headed s ≡ b → pick b (Some (length_of (le16 s 0) + 2)) None ≡ None → headed s ≡ false
+      go true h q = let z : ◌≡◌ {A = ℕ} 0 1 = cc in absurd (omega arith)
+      go false h q = h
+
+  pub end_some : (end : ℕ) → pdus_end s ≡ Some end → (headed s ≡ true) × (end ≡ length_of (le16 s 0) + 2)
+  end_some end e = go (headed s) refl e
+    where
+      go : (b : Bool) → headed s ≡ b → pick b (Some (length_of (le16 s 0) + 2)) None ≡ Some end → (headed s ≡ true) × (end ≡ length_of (le16 s 0) + 2)
+      go true h q = (h, cc)
+      go false h q = let z : ◌≡◌ {A = ℕ} 0 1 = cc in absurd (omega arith)
+
   module _ (le : 2 ≤ length s) (e : le16 s 0 / 4096 ≡ 1) where
     pub frame-long : length s < length_of (le16 s 0) + 2 → frame_of s ≡ bad
     unfolding frame_of
@@ -173,6 +190,15 @@ module _ (s : List ℕ) where
     pub frame-some : length_of (le16 s 0) + 2 ≤ length s → (length_of (le16 s 0) ≡ 0 → ⊥) → frame_of s ≡ places_at (length s) s 2 (length_of (le16 s 0) + 2)
     unfolding frame_of
     frame-some fit ne = rw (headed-fine le e fit, ne_eqb (length_of (le16 s 0)) 0 ne)
+
+  -- with a PDU in it, the walk from the header to that end says what the frame is
+  pub frame-walked : (end : ℕ) → pdus_end s ≡ Some end → (end ≡ 2 → ⊥) → (end ≤ length s) × (frame_of s ≡ places_at (length s) s 2 end)
+  unfolding frame_of headed
+  frame-walked end e ne =
+      let h = end_some end e in
+      let fit : length_of (le16 s 0) + 2 ≤ length s = leb-true (length_of (le16 s 0) + 2) (length s) (both _ _ h.0).1 in
+      let some : length_of (le16 s 0) ≡ 0 → ⊥ = omega (arith, ne, h.1) in
+      (omega arith, rw (h.0, ne_eqb (length_of (le16 s 0)) 0 some, h.1) refl)
 
   pub read_as : (l : List ℕ) (v : List PduFields) → frame_of s ≡ good l → map (seen_at s) l ≡ v → read_of s ≡ read v
   unfolding read_of

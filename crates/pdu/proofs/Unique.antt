@@ -2,30 +2,27 @@
 use mathlib.Core.Path.{◌≡◌, refl, sym, ap, ◌∙◌}
 use mathlib.Core.List.{List}
 use Prim.Native.Nat.{ℕ}
+use Rattle.std.specs.Prelude.{Result, Ok, Err}
 use Rattle.refusal.specs.Said.{Said, gives, absent, refuses}
-use Rattle.refusal.proofs.Unique.{unique, refusal_of, back}
-use Rattle.pdu.specs.Answers.{said_header, header_said, header_left}
-use Rattle.pdu.specs.declared.FrameHead.{FrameHead}
-use Rattle.pdu.specs.declared.HeaderAnswer.{HeaderAnswer}
-use Rattle.pdu.specs.declared.HeaderAnswer.TheVariants.{Header, No}
+use Rattle.refusal.specs.declared.Refusal.{Refusal}
+use Rattle.refusal.proofs.Unique.{refusal_of, back}
+use Rattle.pdu.specs.Answers.{said_header, header_bytes_of, header_said, header_left}
 
-unfoldable header_from : Said → HeaderAnswer
-header_from (gives l) = Header
-header_from absent = Header
-header_from (refuses n l) = No (refusal_of n l)
+-- the answer, from what it says and from its bytes
+unfoldable header_from : Said → List ℕ → Result (List ℕ) Refusal
+header_from (gives l) b = Ok b
+header_from absent b = Ok b
+header_from (refuses n l) b = Err (refusal_of n l)
 
-header-back : (r : HeaderAnswer) → header_from (said_header r) ≡ r
+header-back : (r : Result (List ℕ) Refusal) → header_from (said_header r) (header_bytes_of r) ≡ r
 unfolding header_from
-header-back Header = refl
-header-back (No x) = ap No (back x)
-
-header_unique : (a b : HeaderAnswer) (s : Said) → said_header a ≡ s → said_header b ≡ s → a ≡ b
-header_unique = unique said_header header_from header-back
+header-back (Ok b) = refl
+header-back (Err x) = ap Err (back x)
 
 -- any two results that `frame_header` may give are equal
-pub frame-header_unique : (used : ℕ) (a b : FrameHead) → (said_header a.answer ≡ header_said used) × (a.bytes ≡ header_left used)
-    → (said_header b.answer ≡ header_said used) × (b.bytes ≡ header_left used) → a ≡ b
+pub frame-header_unique : (used : ℕ) (a b : Result (List ℕ) Refusal) → (said_header a ≡ header_said used) × (header_bytes_of a ≡ header_left used)
+    → (said_header b ≡ header_said used) × (header_bytes_of b ≡ header_left used) → a ≡ b
 frame-header_unique used a b p q =
-    let e = header_unique a.answer b.answer (header_said used) p.0 q.0 in
-    let f : a.bytes ≡ b.bytes = p.1 ∙ sym q.1 in
-    ap (λ (x : HeaderAnswer). record { answer = x; bytes = a.bytes }) e ∙ ap (λ (l : List ℕ). record { answer = b.answer; bytes = l }) f
+    let e : said_header a ≡ said_header b = p.0 ∙ sym q.0 in
+    let f : header_bytes_of a ≡ header_bytes_of b = p.1 ∙ sym q.1 in
+    sym (header-back a) ∙ ap (λ (s : Said). header_from s (header_bytes_of a)) e ∙ ap (λ (l : List ℕ). header_from (said_header b) l) f ∙ header-back b

@@ -1,5 +1,5 @@
 -- What is read of a frame's bytes. Definitions only.
-use Rattle.std.specs.Prelude.{ℕ, zero, suc, ◌+◌, ◌/◌, ◌%◌, List, [], ◌∷◌, map, Bool, true, ◌&&◌, length, take, drop, ltb, leb, eqb}
+use Rattle.std.specs.Prelude.{ℕ, zero, suc, ◌+◌, ◌/◌, ◌%◌, List, [], ◌∷◌, map, Bool, true, ◌&&◌, length, take, drop, ltb, leb, eqb, Option, Some, None}
 use Rattle.refusal.specs.Said.{pick}
 use Rattle.wire.specs.Bytes.{byte_at, le16, le32}
 use Rattle.pdu.specs.declared.PduFields.{PduFields}
@@ -42,6 +42,10 @@ headed s =
     leb frame_header_bytes (length s)
     && eqb (le16 s 0 / type_bit) 1
     && leb (length_of (le16 s 0) + frame_header_bytes) (length s)
+
+-- .. and where its PDUs end then
+abbrev pub pdus_end : List ℕ → Option ℕ
+pdus_end s = pick (headed s) (Some (length_of (le16 s 0) + frame_header_bytes)) None
 
 -- a whole frame; length 0 is no PDUs
 unfoldable pub frame_of : List ℕ → Places

@@ -2,13 +2,13 @@
 // RULES, frames. The builder and the reader share the definitions in specs/ and the record of a PDU's fields.
 #![tactic(auto)]
 
-ghost use Rattle.std.specs.Prelude.{◌≡◌, ◌%◌, ◌≤◌};
-ghost use Rattle.pdu.specs.Pdu.{area_most, header_of, frame_header};
-ghost use Rattle.pdu.specs.Read.{length_of, rightly};
-ghost use Rattle.pdu.specs.Answers.{said_header, header_said, header_left, pdu_values};
+ghost use Rattle.std.specs.Prelude.{◌≡◌};
+ghost use Rattle.pdu.specs.Pdu.{header_of};
+ghost use Rattle.pdu.specs.Read.{length_of, pdus_end, rightly};
+ghost use Rattle.pdu.specs.Answers.{said_header, header_bytes_of, header_said, header_left, pdu_values};
 
 use refusal::Refusal;
-use wire::flag;
+use wire::word_at;
 
 // The bytes of a PDU's header; of a PDU over its payload, which are its header and the working counter behind the payload; and of a frame's header.
 pub const HEADER_BYTES: usize = 10;
@@ -47,8 +47,9 @@ pub const AREA_MOST: usize = 2047;
 pub const PDUS_MOST: usize = 170;
 
 // A PDU's fields as they are read. Its payload lies at `place`, counted from the frame's first byte, for `len` bytes.
-#[derive(Clone, Copy)]
+#[derive(Clone, Copy, Default)]
 pub struct PduFields {
+    // A number and no enum: the reader gives any that a frame holds.
     pub command: u8,
     pub index: u8,
     pub address: u32,
@@ -60,89 +61,69 @@ pub struct PduFields {
     pub counter: u16,
 }
 
-// What packing a frame's header answers.
-#[derive(Clone, Copy)]
-pub enum HeaderAnswer {
-    // The two bytes are the header.
-    Header,
-    // 14: more than 2,047 bytes used.
-    No(Refusal),
-}
-
-// The answer and the two bytes, which are zero where it is a refusal.
-#[derive(Clone, Copy)]
-pub struct FrameHead {
-    pub answer: HeaderAnswer,
-    pub bytes: [u8; 2],
-}
-
 // A PDU's ten header bytes: no flag is set and the IRQ field is 0. Of the length the 11 bits are taken that the header has for it.
 pub fn pack_header(command: u8, index: u8, address: u32, len: u16) -> [u8; 10]
     ensures { result ≡ header_of command index address (length_of len) 0 }
 {
     let n = len % LENGTH_PAST;
-    [
-        command,
-        index,
-        (address % 256) as u8,
-        (address / 256 % 256) as u8,
-        (address / 65536 % 256) as u8,
-        (address / 16777216 % 256) as u8,
-        (n % 256) as u8,
-        (n / 256 % 256) as u8,
-        0,
-        0,
-    ]
+    let [a0, a1, a2, a3] = address.to_le_bytes();
+    let [low, high] = n.to_le_bytes();
+    [command, index, a0, a1, a2, a3, low, high, 0, 0]
 }
 
-fn packed_frame_header(used: usize) -> [u8; 2]
-    requires { used ≤ area_most }
-    ensures { result ≡ frame_header used }
+// The header of a frame whose PDUs take this many bytes. More than 2,047 are refused with 14.
+#[tactic(auto, using(refusal::proofs::Tests::tests), unfolding(crate::specs::Answers::header_said, crate::specs::Answers::header_left))]
+pub fn frame_header(used: usize) -> Result<[u8; 2], Refusal>
+    ensures { (said_header result ≡ header_said used) × (header_bytes_of result ≡ header_left used) }
 {
-    let w = used + (TYPE_BIT as usize);
-    [(w % 256) as u8, (w / 256 % 256) as u8]
-}
-
-// The header of a frame whose PDUs take this many bytes.
-pub fn frame_header(used: usize) -> FrameHead
-    ensures { (said_header result.answer ≡ header_said used) × (result.bytes ≡ header_left used) }
-{
-    if used <= AREA_MOST {
-        let bytes = packed_frame_header(used);
-        FrameHead {
-            answer: HeaderAnswer::Header,
-            bytes,
-        }
-    } else {
-        FrameHead {
-            answer: HeaderAnswer::No(Refusal::BadArgument),
-            bytes: [0, 0],
-        }
+    if used > AREA_MOST {
+        return Err(Refusal::BadArgument);
     }
+    Ok(((used as u16) + TYPE_BIT).to_le_bytes())
 }
 
-// A PDU's fields as a row of numbers, in the order of the record; a flag is 1 or 0.
+// A PDU's fields as a row of numbers, in the order of the record; a flag is 1 or 0. A function by its name and no `From`: it is a public call with a row in `pinned`.
 pub fn pdu_row(p: PduFields) -> [u64; 9]
     ensures { result ≡ pdu_values p }
 {
     [
-        p.command as u64,
-        p.index as u64,
-        p.address as u64,
-        p.len as u64,
-        flag(p.circulated),
-        flag(p.more_follows),
-        p.irq as u64,
+        u64::from(p.command),
+        u64::from(p.index),
+        u64::from(p.address),
+        u64::from(p.len),
+        u64::from(p.circulated),
+        u64::from(p.more_follows),
+        u64::from(p.irq),
         p.place as u64,
-        p.counter as u64,
+        u64::from(p.counter),
     ]
 }
 
+// Where the PDUs of a frame end: its header is there, of type 1, and its length lies within the bytes. Of other bytes it is none.
+#[tactic(auto, unfolding(crate::specs::Read::headed))]
+pub fn pdus_end(s: &[u8]) -> Option<usize>
+    ensures { result ≡ pdus_end s.now }
+{
+    if s.len() < FRAME_HEADER_BYTES {
+        return None;
+    }
+    let w = word_at(s, 0);
+    let end = usize::from(w % LENGTH_PAST) + FRAME_HEADER_BYTES;
+    if w / TYPE_BIT != 1 {
+        return None;
+    }
+    if s.len() < end {
+        return None;
+    }
+    Some(end)
+}
+
 // The PDU at `at` with these flags ends rightly: at `end` if it is the last, before it if more follow.
+#[tactic(auto, unfolding(crate::specs::Read::rightly))]
 pub fn ends_rightly(at: usize, end: usize, flags: u16) -> bool
     ensures { result ≡ rightly at end flags }
 {
-    let n = PDU_OVERHEAD_BYTES + ((flags % LENGTH_PAST) as usize);
+    let n = PDU_OVERHEAD_BYTES + usize::from(flags % LENGTH_PAST);
     if end < at {
         return false;
     }

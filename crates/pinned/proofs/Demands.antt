@@ -21,7 +21,7 @@ module _ {M : Type 1} {𝓤 : Ura M} (𝓛 : Logic 𝓤) (mem : Memory → SProp
   every_demand = record {
     «eeprom::Range::read_byte» = λ κs a g r e. of_one 𝓤 (λ met l p. byte_never_1 _ _ _ l (sym met ∙ p));
     «created_frame::push_pdu» = λ κs a g r e. of_three 𝓤 (λ met. pushes _ _ _ _ _ _ _ r _ met);
-    «frame_reader::read_frame» = λ κs a g r e. of_one 𝓤 (λ met. reads _ r met);
+    «frame_reader::read_frame» = λ κs a g r e. of_three 𝓤 (λ met. reads _ r met);
     «received::receive» = λ κs a g r e. of_one 𝓤 (λ met. receives _ _ r met);
     «spread::spread» = λ κs a g r e. of_one 𝓤 (λ met. demand3 _ _ _ _ _ _ _ r _ met);
   }

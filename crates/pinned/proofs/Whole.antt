@@ -15,21 +15,20 @@ use Rattle.wire.specs.Bytes.{span, filled}
 use Rattle.eeprom.specs.Image.{width_of, chunk_of}
 use Rattle.eeprom.specs.declared.Chunk.{Chunk}
 use Rattle.eeprom.specs.declared.Chunk.TheVariants as chunk
-use Rattle.eeprom.proofs.Unique.{range_unique, byte_unique, reading_unique, exact_read_unique, words-written_unique}
+use Rattle.eeprom.proofs.Unique.{checked_unique, range_unique, byte_unique, reading_unique, exact_read_unique, words-written_unique}
 use Rattle.category.proofs.Unique.{found_unique as category-unique, inside_unique}
 use Rattle.sii.proofs.Unique.{alias_unique, set_unique, identity_unique, mailbox_unique, size_unique, general_unique, found_unique, ports_unique, word_unique}
 use Rattle.setup.proofs.Unique.{pdi_unique, bootstrap_unique, version_unique, checksum_unique}
-use Rattle.lists.proofs.Unique.{sms_unique, fmmus_unique, pdos_unique}
+use Rattle.lists.proofs.Unique.{count_unique, rest_unique, sms_unique, fmmus_unique, pdos_unique}
 use Rattle.clock.proofs.Unique.{clocks_unique}
 use Rattle.strings.proofs.Unique.{string_unique}
-use Rattle.ports.proofs.Unique.{port_unique, assigned_unique, time_unique, topology_unique, text_unique}
+use Rattle.ports.proofs.Unique.{port_unique, entry_unique, last_unique, assigned_unique, time_unique, total_unique, sum_unique, topology_unique, text_unique}
 use Rattle.pdu.proofs.Unique.{frame-header_unique}
 use Rattle.created_frame.proofs.Unique.{opened_unique, push_unique, rest_push_unique, can_unique}
 use Rattle.frame_reader.proofs.Unique.{read-frame_unique}
 use Rattle.spread.proofs.Unique.{spread_unique}
 use Rattle.lines.proofs.Unique.{number_unique, hex_unique}
-use Rattle.held.specs.declared.ByteStep.{ByteStep}
-use Rattle.held.specs.declared.CountStep.{CountStep}
+use Rattle.eeprom.specs.declared.Standing.{Standing}
 use Rattle.held.specs.declared.Opened.{Opened}
 use Rattle.held.specs.declared.OpenedMut.{OpenedMut}
 use Rattle.held.proofs.Unique.{outcome_unique, byte-read_unique, counted_unique}
@@ -61,12 +60,13 @@ module _ {M : Type 1} {𝓤 : Ura M} (𝓛 : Logic 𝓤) (mem : Memory → SProp
     «wire::long_at» = λ κs a g r s ws vs. one 𝓤 (λ p q. (same p q, refl));
     «wire::flag» = λ κs a g r s ws vs. one 𝓤 (λ p q. (same p q, refl));
     «wire::lesser» = λ κs a g r s ws vs. one 𝓤 (λ p q. (same p q, refl));
-    «wire::lay» = λ κs a g r s ws vs. one 𝓤 (λ p q. (refl, ap (λ l. (l, (tt, (tt, tt)))) (same p q)));
+    «wire::lay» = λ T copying d κs a g r s ws vs. one 𝓤 (λ p q. (refl, ap (λ l. (l, (tt, (tt, tt)))) (same p q)));
     «wire::fill» = λ κs a g r s ws vs. one 𝓤 (λ p q. (refl, ap (λ l. (l, (tt, tt))) (same p q)));
     -- ---- crc
     «crc::crc» = λ κs a g r s ws vs. one 𝓤 (λ p q. (same p q, refl));
     -- ---- eeprom
     «eeprom::image_within» = λ κs a g r s ws vs. one 𝓤 (λ p q. (same p q, refl));
+    «eeprom::checked» = λ κs a g r s ws vs. one 𝓤 (λ p q. (checked_unique _ r s p q, refl));
     «eeprom::read_chunk» = λ κs a g r s ws vs. one 𝓤 (λ p q. (same p q, refl));
     narrow = λ κs a m g h r s ws vs. one 𝓤 (λ p q. (same (ap (take 4) p ∙ narrow-is _ _ a.1.1.0) (ap (take 4) q ∙ narrow-is _ _ m), refl));
     «eeprom::byte_of» = λ κs a m g h r s ws vs. one 𝓤 (λ p q. (same p q, refl));
@@ -106,6 +106,8 @@ module _ {M : Type 1} {𝓤 : Ura M} (𝓛 : Logic 𝓤) (mem : Memory → SProp
     «setup::bootstrap_row» = λ κs a g r s ws vs. one 𝓤 (λ p q. (same p q, refl));
     «setup::checksum_row» = λ κs a g r s ws vs. one 𝓤 (λ p q. (same p q, refl));
     -- ---- lists
+    «lists::rest_behind» = λ κs a g r s ws vs. one 𝓤 (λ p q. (rest_unique _ _ r s p q, refl));
+    «lists::read_records» = λ R V kind k copying d κs a m g h r s ws vs. two 𝓤 (λ p q p' q'. (count_unique r s _ p q, ap (λ l. (tt, (tt, (tt, (l, tt))))) (same p' q')));
     «lists::sync_managers» = λ κs a m g h r s ws vs. one 𝓤 (λ p q. (sms_unique r s _ p q, refl));
     «lists::fmmus» = λ κs a m g h r s ws vs. one 𝓤 (λ p q. (fmmus_unique r s _ p q, refl));
     «lists::fmmu_mappings» = λ κs a m g h r s ws vs. one 𝓤 (λ p q. (fmmus_unique r s _ p q, refl));
@@ -124,13 +126,13 @@ module _ {M : Type 1} {𝓤 : Ura M} (𝓛 : Logic 𝓤) (mem : Memory → SProp
     -- ---- ports
     «ports::Ports::new» = λ κs a g r s ws vs. one 𝓤 (λ p q. (same p q, refl));
     «ports::Ports::set_receive_times» = λ κs a g r s ws vs. one 𝓤 (λ p q. (same p q, refl));
-    «ports::Ports::entry_port» = λ κs a g r s ws vs. one 𝓤 (λ p q. (port_unique r s _ p q, refl));
-    «ports::Ports::last_port» = λ κs a g r s ws vs. one 𝓤 (λ p q. (port_unique r s _ p q, refl));
+    «ports::Ports::entry_port» = λ κs a g r s ws vs. one 𝓤 (λ p q. (entry_unique r s _ p q, refl));
+    «ports::Ports::last_port» = λ κs a g r s ws vs. one 𝓤 (λ p q. (last_unique r s _ p q, refl));
     «ports::Ports::topology» = λ κs a g r s ws vs. one 𝓤 (λ p q. (topology_unique r s _ p q, refl));
-    «ports::Ports::total_propagation_time» = λ κs a g r s ws vs. one 𝓤 (λ p q. (time_unique r s _ p q, refl));
+    «ports::Ports::total_propagation_time» = λ κs a g r s ws vs. one 𝓤 (λ p q. (total_unique r s _ p q, refl));
     «ports::Ports::total_propagation_time_from» = λ κs a g r s ws vs. one 𝓤 (λ p q. (time_unique r s _ p q, refl));
     «ports::Ports::propagation_time_to» = λ κs a g r s ws vs. one 𝓤 (λ p q. (time_unique r s _ p q, refl));
-    «ports::Ports::intermediate_propagation_time_to» = λ κs a g r s ws vs. one 𝓤 (λ p q. (time_unique r s _ p q, refl));
+    «ports::Ports::intermediate_propagation_time_to» = λ κs a g r s ws vs. one 𝓤 (λ p q. (sum_unique r s _ p q, refl));
     «ports::Ports::assign_next_downstream_port» = λ κs a g r s ws vs. one 𝓤 (λ p q. (assigned_unique _ _ r s p q, refl));
     «ports::Ports::port_assigned_to» = λ κs a g r s ws vs. one 𝓤 (λ p q. (port_unique r s _ p q, refl));
     «ports::Ports::display» = λ κs a g r s ws vs. two 𝓤 (λ p q p' q'. (text_unique r s _ p q, ap (λ l. (tt, (l, tt))) (same p' q')));
@@ -138,6 +140,7 @@ module _ {M : Type 1} {𝓤 : Ura M} (𝓛 : Logic 𝓤) (mem : Memory → SProp
     «pdu::pack_header» = λ κs a g r s ws vs. one 𝓤 (λ p q. (same p q, refl));
     «pdu::frame_header» = λ κs a g r s ws vs. one 𝓤 (λ p q. (frame-header_unique _ r s p q, refl));
     «pdu::pdu_row» = λ κs a g r s ws vs. one 𝓤 (λ p q. (same p q, refl));
+    «pdu::pdus_end» = λ κs a g r s ws vs. one 𝓤 (λ p q. (same p q, refl));
     «pdu::ends_rightly» = λ κs a g r s ws vs. one 𝓤 (λ p q. (same p q, refl));
     -- ---- created_frame
     «created_frame::open» = λ κs a g r s ws vs. two 𝓤 (λ p q p' q'. (opened_unique r s _ p q, ap (λ l. (l, tt)) (same p' q')));
@@ -148,7 +151,7 @@ module _ {M : Type 1} {𝓤 : Ura M} (𝓛 : Logic 𝓤) (mem : Memory → SProp
     «created_frame::state_row» = λ κs a g r s ws vs. one 𝓤 (λ p q. (same p q, refl));
     «created_frame::handle_row» = λ κs a g r s ws vs. one 𝓤 (λ p q. (same p q, refl));
     -- ---- frame_reader
-    «frame_reader::read_frame» = λ κs a g r s ws vs. one 𝓤 (λ p q. (read-frame_unique _ r s p q, refl));
+    «frame_reader::read_frame» = λ κs a g r s ws vs. three 𝓤 (λ p q p' q' p'' q''. (read-frame_unique _ r s (p, (p', p'')) (q, (q', q'')), refl));
     -- ---- received
     «received::receive» = λ κs a g r s ws vs. one 𝓤 (λ p q. (same p q, refl));
     -- ---- spread
@@ -169,8 +172,8 @@ module _ {M : Type 1} {𝓤 : Ura M} (𝓛 : Logic 𝓤) (mem : Memory → SProp
     «held::EepromRange::read_exact» = λ κs a m g h r s ws vs. one 𝓤 (λ p q. (outcome_unique r s _ p.0 q.0, ap₂ (λ b l. (b, (tt, (l, tt)))) (same p.1.0 q.1.0) (same p.1.1 q.1.1)));
     «held::EepromRangeMut::new» = λ κs a g r s ws vs. one 𝓤 (λ p q. (ap₂ {C = OpenedMut} (λ x y. record { answer = x; range = y }) (outcome_unique r.answer s.answer _ p.0 q.0) (same p.1 q.1), refl));
     «held::EepromRangeMut::write» = λ κs a g r s ws vs. one 𝓤 (λ p q. (counted_unique r s _ p.0 q.0, ap (λ l. (l, (tt, tt))) (same p.1 q.1)));
-    «held::byte_in» = λ κs a m g h r s ws vs. one 𝓤 (λ p q. (ap₂ {C = ByteStep} (λ x y. record { answer = x; byte_pos = y }) (byte-read_unique r.answer s.answer _ p.0 q.0) (same p.1 q.1), refl));
-    «held::write_in» = λ κs a g r s ws vs. one 𝓤 (λ p q. (ap₂ {C = CountStep} (λ x y. record { answer = x; byte_pos = y }) (counted_unique r.answer s.answer _ p.0.0 q.0.0) (same p.0.1 q.0.1), ap (λ l. (l, (tt, (tt, (tt, tt))))) (same p.1 q.1)));
+    «held::byte_in» = λ κs a m g h r s ws vs. one 𝓤 (λ p q. (ap₂ {C = Standing ℕ} (λ x y. record { answer = x; range = y }) (byte-read_unique r.answer s.answer _ p.0 q.0) (same p.1 q.1), refl));
+    «held::write_in» = λ κs a g r s ws vs. one 𝓤 (λ p q. (ap₂ {C = Standing ℕ} (λ x y. record { answer = x; range = y }) (counted_unique r.answer s.answer _ p.0.0 q.0.0) (same p.0.1 q.0.1), ap (λ l. (l, (tt, (tt, tt)))) (same p.1 q.1)));
     «held::set_receive_times» = λ κs a g r s ws vs. one 𝓤 (λ p q. (refl, ap (λ l. (l, (tt, (tt, (tt, (tt, tt)))))) (same p q)));
     «held::assign_next_downstream_port» = λ κs a g r s ws vs. one 𝓤 (λ p q. (port_unique r s _ p.0 q.0, ap (λ l. (l, (tt, tt))) (same p.1 q.1)));
     «held::after_assign» = λ κs a g r s ws vs. one 𝓤 (λ p q. (assigned_unique _ _ r s p q, refl));

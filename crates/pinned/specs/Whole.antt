@@ -7,6 +7,9 @@ use base.Logic.{SProp, ent}
 use prog.Memory.{Memory}
 use prog.Routine.{Routine}
 use types.Logic.{Logic}
+use mir.Syntax.{Dict}
+use denote.RattleType.{RattleType}
+use Rattle.std.specs.declared.clone.Clone.{Ghosts}
 use contract.Lifetimes.{Lfts}
 use contract.Monad.{Fun, conj, fact}
 use denote.Triple.Entry.{Args, Res}
@@ -20,6 +23,7 @@ use Rattle.category.specs.contracts as of-category
 use Rattle.sii.specs.contracts as of-sii
 use Rattle.setup.specs.contracts as of-setup
 use Rattle.lists.specs.contracts as of-lists
+use Rattle.lists.specs.declared.Record as of-lists-records
 use Rattle.clock.specs.contracts as of-clock
 use Rattle.strings.specs.contracts as of-strings
 use Rattle.ports.specs.contracts as of-ports
@@ -36,15 +40,12 @@ use Rattle.export.specs.contracts as of-export
 abbrev pub Contract : {M : Type 1} → Ura M → Ended → Type 2
 Contract 𝓤 T = (𝓛 : Logic 𝓤) → (Memory → SProp 𝓤) → (Routine → Fun 𝓤) → Clauses 𝓤 T
 
--- the arguments with the width m, which is the second, the third or the fourth of them
+-- the arguments with the width m, which is the second or the third of them
 abbrev pub second : {L X Y : Type 0} → L → Chunk → X × (Chunk × Y) → X × (Chunk × Y)
 second κs m a = (a.0, (m, a.1.1))
 
 abbrev pub third : {L X Y Z : Type 0} → L → Chunk → X × (Y × (Chunk × Z)) → X × (Y × (Chunk × Z))
 third κs m a = (a.0, (a.1.0, (m, a.1.1.1)))
-
-abbrev pub fourth : {L X Y Z W : Type 0} → L → Chunk → X × (Y × (Z × (Chunk × W))) → X × (Y × (Z × (Chunk × W)))
-fourth κs m a = (a.0, (a.1.0, (a.1.1.0, (m, a.1.1.1.1))))
 
 -- the last values for one width are those for the other
 abbrev pub IsAlike : {L B X : Type 0} → L → B → Chunk → X → X → Type 0
@@ -88,12 +89,13 @@ module _ {M : Type 1} {𝓤 : Ura M} (𝓛 : Logic 𝓤) (mem : Memory → SProp
     pub «wire::long_at» : Whole of-wire.long_at.ended of-wire.long_at.clauses
     pub «wire::flag» : Whole of-wire.flag.ended of-wire.flag.clauses
     pub «wire::lesser» : Whole of-wire.lesser.ended of-wire.lesser.clauses
-    pub «wire::lay» : Whole of-wire.lay.ended of-wire.lay.clauses
+    pub «wire::lay» : (T : RattleType) (copying : Ghosts T.Denot) (d : Dict) → Whole (of-wire.lay.ended T copying d) (of-wire.lay.clauses T copying d)
     pub «wire::fill» : Whole of-wire.fill.ended of-wire.fill.clauses
     -- ---- crc
     pub «crc::crc» : Whole of-crc.crc.ended of-crc.crc.clauses
     -- ---- eeprom
     pub «eeprom::image_within» : Whole of-eeprom.image_within.ended of-eeprom.image_within.clauses
+    pub «eeprom::checked» : Whole of-eeprom.checked.ended of-eeprom.checked.clauses
     pub «eeprom::read_chunk» : Whole of-eeprom.read_chunk.ended of-eeprom.read_chunk.clauses
     -- a chunk is as wide as it is asked: of two widths the bytes that both have are the same
     pub narrow : WideAs of-eeprom.read_chunk.ended of-eeprom.read_chunk.clauses (λ κs. List ℕ) (λ κs r. take 4 r) third IsAlike
@@ -134,6 +136,9 @@ module _ {M : Type 1} {𝓤 : Ura M} (𝓛 : Logic 𝓤) (mem : Memory → SProp
     pub «setup::bootstrap_row» : Whole of-setup.bootstrap_row.ended of-setup.bootstrap_row.clauses
     pub «setup::checksum_row» : Whole of-setup.checksum_row.ended of-setup.checksum_row.clauses
     -- ---- lists
+    pub «lists::rest_behind» : Whole of-lists.rest_behind.ended of-lists.rest_behind.clauses
+    pub «lists::read_records» : (R V : RattleType) (kind : of-lists-records.Ghosts R.Denot V.Denot) (k : Dict) (copying : Ghosts V.Denot) (d : Dict)
+        → Wide (of-lists.read_records.ended R V kind k copying d) (of-lists.read_records.clauses R V kind k copying d) second IsAlike
     pub «lists::sync_managers» : Wide of-lists.sync_managers.ended of-lists.sync_managers.clauses second IsAlike
     pub «lists::fmmus» : Wide of-lists.fmmus.ended of-lists.fmmus.clauses second IsAlike
     pub «lists::fmmu_mappings» : Wide of-lists.fmmu_mappings.ended of-lists.fmmu_mappings.clauses second IsAlike
@@ -166,6 +171,7 @@ module _ {M : Type 1} {𝓤 : Ura M} (𝓛 : Logic 𝓤) (mem : Memory → SProp
     pub «pdu::pack_header» : Whole of-pdu.pack_header.ended of-pdu.pack_header.clauses
     pub «pdu::frame_header» : Whole of-pdu.frame_header.ended of-pdu.frame_header.clauses
     pub «pdu::pdu_row» : Whole of-pdu.pdu_row.ended of-pdu.pdu_row.clauses
+    pub «pdu::pdus_end» : Whole of-pdu.pdus_end.ended of-pdu.pdus_end.clauses
     pub «pdu::ends_rightly» : Whole of-pdu.ends_rightly.ended of-pdu.ends_rightly.clauses
     -- ---- created_frame
     pub «created_frame::open» : Whole of-created-frame.«open».ended of-created-frame.«open».clauses
@@ -198,7 +204,7 @@ module _ {M : Type 1} {𝓤 : Ura M} (𝓛 : Logic 𝓤) (mem : Memory → SProp
     pub «held::EepromRange::read_exact» : Wide of-held.EepromRange.read_exact.ended of-held.EepromRange.read_exact.clauses second IsAlike
     pub «held::EepromRangeMut::new» : Whole of-held.EepromRangeMut.new.ended of-held.EepromRangeMut.new.clauses
     pub «held::EepromRangeMut::write» : Whole of-held.EepromRangeMut.write.ended of-held.EepromRangeMut.write.clauses
-    pub «held::byte_in» : Wide of-held.byte_in.ended of-held.byte_in.clauses fourth IsAlike
+    pub «held::byte_in» : Wide of-held.byte_in.ended of-held.byte_in.clauses third IsAlike
     pub «held::write_in» : Whole of-held.write_in.ended of-held.write_in.clauses
     pub «held::set_receive_times» : Whole of-held.set_receive_times.ended of-held.set_receive_times.clauses
     pub «held::assign_next_downstream_port» : Whole of-held.assign_next_downstream_port.ended of-held.assign_next_downstream_port.clauses

@@ -1,8 +1,7 @@
 -- The bench cases on ports that are not marked P (RULES, bench; the crate `bench` has the others), times that pass the wrap, and what DECISIONS says of a record
 -- that no call made: each is computed.
-use Rattle.std.proofs.Common.{◌≡◌, ℕ, true, false, eqb, ltb, [], ◌∷◌, sym, refl, ap, ◌∙◌, le_refl, arith, le-ltb}
+use Rattle.std.proofs.Common.{◌≡◌, ℕ, true, false, eqb, ltb, [], ◌∷◌, Some, sym, refl, ap, ◌∙◌, le_refl, arith, le-ltb}
 use Rattle.refusal.specs.Said.{gives, absent, refuses}
-use Rattle.ports.specs.declared.Link.TheVariants.{To}
 use Rattle.ports.specs.declared.Ports.{Ports}
 use Rattle.ports.specs.Answers.{entry_said}
 use Rattle.ports.specs.Ports.{no_port, those, first_that, folded, earliest, active_ports, entry, fresh, times_set, link_set}
@@ -23,7 +22,7 @@ turning = times_set (fresh true true false false) 4294967290 10 0 0
 
 -- a record that no call made: place 1 is active, calls itself port 7 and leads to device 0
 unfoldable pub stray : Ports
-stray = record { 0 = no_port ∷ record { active = true; dc_receive_time = 5; number = 7; downstream_to = To 0 } ∷ no_port ∷ no_port ∷ [] }
+stray = record { 0 = no_port ∷ record { active = true; dc_receive_time = 5; number = 7; downstream_to = Some 0 } ∷ no_port ∷ no_port ∷ [] }
 
 -- the record after a device is assigned
 abbrev after : Ports → ℕ → Ports

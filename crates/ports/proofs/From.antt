@@ -10,15 +10,12 @@ use Rattle.ports.proofs.Entry.{entry-is, entry-none}
 
 -- ---- the code's way
 
--- the number that wraps back to t is the time elapsed
-pub elapsed_wraps : (r e t : ℕ) → (r + e) % clock_round ≡ t → r < clock_round → e < clock_round → r ≡ elapsed e t
-unfolding elapsed
-elapsed_wraps r e t w a b = omega arith
-
 -- the largest time of the record that is counted from a place
 pub counted-largest : (p : Ports) (k : ℕ) → largest (map (time_at (counted_from p (time_at p k))) (active_ports (counted_from p (time_at p k)))) ≡ total_from p k
 unfolding total_from counted_from times_set active_ports those
 counted-largest p k = ap largest (map-active p (time_at (counted_from p (time_at p k))) (λ (j : ℕ). elapsed (time_at p k) (time_at p j)) refl refl refl refl)
+
+pub ruleset counted = (counted-largest)
 
 -- ---- the old total
 

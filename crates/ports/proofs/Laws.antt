@@ -3,8 +3,7 @@ use Rattle.std.proofs.Common.{◌≡◌, ℕ, zero, suc, ◌+◌, ◌-◌, ◌<�
 use mathlib.Core.Bool.{and-true, and-false}
 use Rattle.refusal.specs.Said.{pick}
 use Rattle.ports.specs.declared.Ports.{Ports}
-use Rattle.ports.specs.declared.Port.{Port}
-use Rattle.ports.specs.Ports.{number_at, place_of, places, port_count, nowhere, active_at, time_at, linked_at, those, first_that, folded, taking, last_of, sooner, earliest, active_ports, entry, only}
+use Rattle.ports.specs.Ports.{number_at, place_of, places, port_count, nowhere, active_at, time_at, those, first_that, folded, taking, last_of, sooner, earliest, active_ports, entry, only}
 use Rattle.ports.specs.Delays.{largest, smallest, breadth, total, between, active_between, time_to}
 
 -- ---- a port
@@ -27,9 +26,6 @@ place-number = at_each (λ (k : ℕ). place_of (number_at k) ≡ k) refl refl re
 pub number_low : (k : ℕ) → k < nowhere → number_at k < port_count
 number_low = at_each (λ (k : ℕ). number_at k < port_count) (leb-true 1 nowhere refl) (leb-true 4 nowhere refl) (leb-true 2 nowhere refl) (leb-true 3 nowhere refl)
 
-pub active-is : {q r : Port} {b : Bool} → q ≡ r → q.active ≡ b → r.active ≡ b
-active-is e h = rw e at h
-
 -- ---- lists of places
 
 module _ {A : Type 0} (g : ℕ → Bool) (f : A → ℕ → A) where
@@ -43,13 +39,8 @@ module _ {A : Type 0} (g : ℕ → Bool) (f : A → ℕ → A) where
       go true next = next (f x k)
       go false next = next x
 
-folded_map : {A : Type 0} (f : A → ℕ → A) (t : ℕ → ℕ) (x : A) (ks : List ℕ) → folded f x (map t ks) ≡ folded (λ (y : A) (k : ℕ). f y (t k)) x ks
-unfolding folded
-folded_map f t x [] = refl
-folded_map f t x (k ∷ ks) = folded_map f t (f x (t k)) ks
-
 module _ (h g : ℕ → Bool) where
-  first-those : (ks : List ℕ) → first_that g (those h ks) ≡ first_that (λ (k : ℕ). h k && g k) ks
+  pub first-those : (ks : List ℕ) → first_that g (those h ks) ≡ first_that (λ (k : ℕ). h k && g k) ks
   unfolding first_that those
   first-those [] = refl
   first-those (k ∷ ks) = go (h k) (first-those ks)
@@ -111,18 +102,6 @@ module _ (p : Ports) where
   unfolding last_of active_ports folded
   last_steps = sym (folded-those (active_at p) (λ (x k : ℕ). k) nowhere places)
 
-  abbrev leads : ℕ → ℕ → Bool
-  leads d k = active_at p k && linked_at p d k
-
-  pub linked_steps : (d : ℕ)
-      → pick (leads d 0) 0 (pick (leads d 1) 1 (pick (leads d 2) 2 (pick (leads d 3) 3 nowhere))) ≡ first_that (linked_at p d) (active_ports p)
-  unfolding active_ports first_that
-  linked_steps d = sym (first-those (active_at p) (linked_at p d) places)
-
-  pub largest_steps : folded (taking (active_at p) (λ (t k : ℕ). max t (time_at p k))) 0 places ≡ largest (map (time_at p) (active_ports p))
-  unfolding largest active_ports
-  largest_steps = sym (folded_map max (time_at p) 0 (those (active_at p) places) ∙ folded-those (active_at p) (λ (t k : ℕ). max t (time_at p k)) 0 places)
-
   pub count_steps : pick (active_at p 0) 1 0 + (pick (active_at p 1) 1 0 + (pick (active_at p 2) 1 0 + pick (active_at p 3) 1 0)) ≡ length (active_ports p)
   unfolding active_ports
   count_steps = rw (length-those (active_at p) 0, length-those (active_at p) 1, length-those (active_at p) 2, length-those (active_at p) 3, length_none (active_at p), add-zero)
@@ -166,10 +145,10 @@ pub all_active : (P : ℕ → Type 0) (p : Ports) → ((k : ℕ) → k < nowhere
 unfolding active_ports
 all_active P p h = all_those P (active_at p) places (h 0 (omega arith), (h 1 (omega arith), (h 2 (omega arith), (h 3 (omega arith), tt))))
 
-abbrev Low : List ℕ → Type 0
+abbrev pub Low : List ℕ → Type 0
 Low = All (λ (k : ℕ). k < nowhere)
 
-low_active : (p : Ports) → Low (active_ports p)
+pub low_active : (p : Ports) → Low (active_ports p)
 low_active p = all_active (λ (k : ℕ). k < nowhere) p (λ (k : ℕ) (h : k < nowhere) (a : active_at p k ≡ true). h)
 
 module _ (t : ℕ → ℕ) where
@@ -210,6 +189,8 @@ module _ (p : Ports) (e : ℕ) (q : e ≡ entry p) where
   pub total-none : nowhere ≤ e → 0 ≡ total p
   unfolding total breadth entry largest smallest folded
   total-none h = rw (earliest-none (time_at p) (active_ports p) (low_active p) (let z : nowhere ≤ entry p = omega arith in z))
+
+pub ruleset totals = (total-is, total-none, only-total)
 
 -- the total is at most the largest time of an active port
 pub total-most : (p : Ports) (most : ℕ) → ((k : ℕ) → k < nowhere → active_at p k ≡ true → time_at p k ≤ most) → total p ≤ most

@@ -1,4 +1,7 @@
 pub mod Laws
+pub mod Listed
+pub mod Made
+pub mod Least
 pub mod Words
 pub mod Unique
 pub mod Entry

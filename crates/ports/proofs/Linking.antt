@@ -1,6 +1,6 @@
 -- What assigning comes to: the port that it takes was active and unlinked and is not the entry port, it has the link afterwards, and nothing else of the record
 -- changes. The assigning rule is opened in the laws of its name, assignable-from and the rest, and nowhere else.
-use Rattle.std.proofs.Common.{◌≡◌, ℕ, ◌<◌, ◌≤◌, Bool, true, false, ◌&&◌, eqb, ltb, ◌≢◌, List, [], ◌∷◌, length, sym, refl, ap, ◌∙◌, subst, true≢false, arith, get_or-set_other, get_or-set_same, ltb-false, ltb-true, le-ltb, lt-ltb, eq-eqb, ne_eqb, eqb-true}
+use Rattle.std.proofs.Common.{◌≡◌, ℕ, ◌<◌, ◌≤◌, Bool, true, false, ◌&&◌, eqb, ltb, ◌≢◌, List, [], ◌∷◌, length, sym, refl, ap, ◌∙◌, subst, true≢false, arith, get_or-set_other, get_or-set_same, ltb-false, ltb-true, lt-ltb, eqb-true}
 use lib.ListN.{get_or-eq_default}
 use borrow.Author.Tests.{eqb-false}
 use Rattle.refusal.specs.Said.{Said, pick, gives, absent, refuses}
@@ -8,6 +8,7 @@ use Rattle.ports.specs.declared.Port.{Port}
 use Rattle.ports.specs.declared.Ports.{Ports}
 use Rattle.ports.specs.Ports.{nowhere, number_at, place_of, no_port, port_at, active_at, unlinked_at, first_that, entry, linked, link_set}
 use Rattle.ports.specs.Assigning.{others_from, open_at, assignable, assigned_said, linked_as, assigned_ports}
+use Rattle.ports.specs.Answers.{port_said}
 use Rattle.ports.specs.Meaning.{Took}
 use Rattle.ports.proofs.Laws.{at_each, All, number_low, place-number}
 use Rattle.ports.proofs.Alike.{Alike}
@@ -132,39 +133,9 @@ module _ (p : Ports) (d : ℕ) where
   unfolding assigned_ports
   assigns s e = (e, ap (linked_as p d) e)
 
-  -- device 0 is refused
-  pub assigns_zero : d ≡ 0 → Assigns p d (refuses 14 []) p
-  unfolding assigned_said
-  assigns_zero z = assigns (refuses 14 []) go
-    where
-      go : refuses 14 [] ≡ assigned_said p d
-      go = rw (eq-eqb d 0 z)
-
-  module _ (some : d ≢ 0) where
-    -- .. and so are ports of which none is active
-    pub assigns_none : nowhere ≤ entry p → Assigns p d (refuses 9 []) p
-    unfolding assigned_said
-    assigns_none e = assigns (refuses 9 []) go
-      where
-        go : refuses 9 [] ≡ assigned_said p d
-        go = rw (ne_eqb d 0 some, le-ltb (entry p) nowhere e)
-
-    module _ (e : entry p < nowhere) where
-      -- the rule takes no port
-      pub assigns_absent : nowhere ≤ assignable p → Assigns p d absent p
-      unfolding assigned_said
-      assigns_absent h = assigns absent go
-        where
-          go : absent ≡ assigned_said p d
-          go = rw (ne_eqb d 0 some, lt-ltb (entry p) nowhere e, le-ltb (assignable p) nowhere h)
-
-      -- the rule takes this port
-      pub assigns_port : assignable p < nowhere → Assigns p d (gives (number_at (assignable p) ∷ [])) (link_set p (assignable p) d)
-      unfolding assigned_said
-      assigns_port h = rw (place-number (assignable p) h) at (assigns (gives (number_at (assignable p) ∷ [])) go)
-        where
-          go : gives (number_at (assignable p) ∷ []) ≡ assigned_said p d
-          go = rw (ne_eqb d 0 some, lt-ltb (entry p) nowhere e, lt-ltb (assignable p) nowhere h)
+  -- the port at a place is said
+  pub assigns_port : (k : ℕ) → k < nowhere → assigned_said p d ≡ port_said k absent → Assigns p d (gives (number_at k ∷ [])) (link_set p k d)
+  assigns_port k low e = rw (place-number k low) at (assigns (gives (number_at k ∷ [])) (sym (rw (lt-ltb k nowhere low) at e)))
 
   -- what is said, by the three tests
   abbrev chosen : Bool → Bool → Bool → Said

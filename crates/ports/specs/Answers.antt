@@ -1,32 +1,21 @@
 -- What each answer says on paper: number and values for each of its cases (RULES, refusals). Definitions only.
-use Rattle.std.specs.Prelude.{ℕ, [], ◌∷◌, length, ◌==◌, nat_lt}
-use Rattle.refusal.specs.Said.{Said, gives, absent, refuses, said_of, pick}
+use Rattle.std.specs.Prelude.{ℕ, List, [], ◌∷◌, length, ◌==◌, nat_lt, Option, Result}
+use Rattle.refusal.specs.declared.Refusal.{Refusal}
+use Rattle.refusal.specs.Said.{Said, said, said_if_any, number_value, gives, absent, refuses, pick}
 use Rattle.ports.specs.declared.Topology.{Topology}
 use Rattle.ports.specs.declared.Topology.TheVariants.{LineEnd, Passthrough, Fork, Cross}
-use Rattle.ports.specs.declared.PortAnswer.{PortAnswer}
-use Rattle.ports.specs.declared.PortAnswer.TheVariants as port
-use Rattle.ports.specs.declared.TimeAnswer.{TimeAnswer}
-use Rattle.ports.specs.declared.TimeAnswer.TheVariants as time
-use Rattle.ports.specs.declared.TopologyAnswer.{TopologyAnswer}
-use Rattle.ports.specs.declared.TopologyAnswer.TheVariants as topology
-use Rattle.ports.specs.declared.TextAnswer.{TextAnswer}
-use Rattle.ports.specs.declared.TextAnswer.TheVariants as text
 use Rattle.ports.specs.declared.Ports.{Ports}
 use Rattle.ports.specs.Ports.{number_at, nowhere, active_ports, entry, last_of, first_that, linked_at}
 
 -- ---- the maps
 
 -- the port's number
-abbrev pub said_port : PortAnswer → Said
-said_port (port.At n) = gives (n ∷ [])
-said_port port.Absent = absent
-said_port (port.No x) = said_of x
+abbrev pub said_port : Result (Option ℕ) Refusal → Said
+said_port = said_if_any number_value
 
 -- the time in nanoseconds
-abbrev pub said_time : TimeAnswer → Said
-said_time (time.Time t) = gives (t ∷ [])
-said_time time.Absent = absent
-said_time (time.No x) = said_of x
+abbrev pub said_time : Result (Option ℕ) Refusal → Said
+said_time = said_if_any number_value
 
 -- a topology is known by its count of active ports
 abbrev pub count_of : Topology → ℕ
@@ -35,15 +24,16 @@ count_of Passthrough = 2
 count_of Fork = 3
 count_of Cross = 4
 
+abbrev pub topology_values : Topology → List ℕ
+topology_values x = count_of x ∷ []
+
 -- the topology's count
-abbrev pub said_topology : TopologyAnswer → Said
-said_topology (topology.Is x) = gives (count_of x ∷ [])
-said_topology (topology.No x) = said_of x
+abbrev pub said_topology : Result Topology Refusal → Said
+said_topology = said topology_values
 
 -- the number of bytes
-abbrev pub said_text : TextAnswer → Said
-said_text (text.Written n) = gives (n ∷ [])
-said_text (text.No x) = said_of x
+abbrev pub said_text : Result ℕ Refusal → Said
+said_text = said number_value
 
 -- ---- what is said of a device
 

@@ -1,9 +1,7 @@
 -- The ports of a device and the list of active ones (RULES, ports). Definitions only.
 -- A port is named by its place, 0 to 3; a frame passes the places in this order.
-use Rattle.std.specs.Prelude.{ℕ, Bool, true, false, ◌&&◌, List, [], ◌∷◌, ◌==◌, nat_lt, slice_index, slice_index_or, slice_set}
+use Rattle.std.specs.Prelude.{ℕ, Bool, true, false, ◌&&◌, List, [], ◌∷◌, ◌==◌, nat_lt, slice_index, slice_index_or, slice_set, Option, Some, None}
 use Rattle.refusal.specs.Said.{pick}
-use Rattle.ports.specs.declared.Link.{Link}
-use Rattle.ports.specs.declared.Link.TheVariants.{Free, To}
 use Rattle.ports.specs.declared.Port.{Port}
 use Rattle.ports.specs.declared.Ports.{Ports}
 
@@ -31,7 +29,7 @@ nowhere = port_count
 
 -- what is read where a list has no port
 abbrev pub no_port : Port
-no_port = record { active = false; dc_receive_time = 0; number = 0; downstream_to = Free }
+no_port = record { active = false; dc_receive_time = 0; number = 0; downstream_to = None }
 
 -- the port at place k
 abbrev pub port_at : Ports → ℕ → Port
@@ -46,18 +44,18 @@ abbrev pub time_at : Ports → ℕ → ℕ
 time_at p k = (port_at p k).dc_receive_time
 
 -- no device is linked; a link to device 0 is a link
-abbrev pub is_free : Link → Bool
-is_free Free = true
-is_free (To d) = false
+abbrev pub is_free : Option ℕ → Bool
+is_free None = true
+is_free (Some d) = false
 
 -- whether the port at place k is unlinked
 abbrev pub unlinked_at : Ports → ℕ → Bool
 unlinked_at p k = is_free (port_at p k).downstream_to
 
 -- the link is to device d
-abbrev pub leads_to : ℕ → Link → Bool
-leads_to d Free = false
-leads_to d (To l) = l == d
+abbrev pub leads_to : ℕ → Option ℕ → Bool
+leads_to d None = false
+leads_to d (Some l) = l == d
 
 -- whether the port at place k is linked to device d
 abbrev pub linked_at : Ports → ℕ → ℕ → Bool
@@ -110,7 +108,7 @@ entry p = earliest (time_at p) (active_ports p)
 
 -- port n, active or not, with no time and no link
 abbrev pub fresh_port : Bool → ℕ → Port
-fresh_port a n = record { active = a; dc_receive_time = 0; number = n; downstream_to = Free }
+fresh_port a n = record { active = a; dc_receive_time = 0; number = n; downstream_to = None }
 
 -- a device of which these ports are active, in the order of places; no times, no links
 unfoldable pub fresh : Bool → Bool → Bool → Bool → Ports
@@ -126,7 +124,7 @@ times_set p t0 t3 t1 t2 = record { 0 = timed (port_at p 0) t0 ∷ timed (port_at
 
 -- the port with a link to device d
 abbrev pub linked : Port → ℕ → Port
-linked q d = record { active = q.active; dc_receive_time = q.dc_receive_time; number = q.number; downstream_to = To d }
+linked q d = record { active = q.active; dc_receive_time = q.dc_receive_time; number = q.number; downstream_to = Some d }
 
 -- the record in which the port at place k leads to device d
 unfoldable pub link_set : Ports → ℕ → ℕ → Ports

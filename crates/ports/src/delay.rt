@@ -1,97 +1,68 @@
 // Delays from the receive times of the active ports: over all of them, since a named entry, from the entry to a port, between neighbours.
-ghost use Rattle.std.specs.Prelude.{◌≡◌, ◌+◌, ◌-◌, ◌<◌, ◌≤◌, max, map};
-ghost use Rattle.ports.specs.Ports.{nowhere, active_at, time_at, taking, port_at, active_ports, timed, only_if, only};
+ghost use Rattle.std.specs.Prelude.{◌≡◌, ◌+◌, ◌<◌, ◌≤◌, map, Ok};
+ghost use Rattle.ports.specs.Ports.{nowhere, time_at, port_at, active_ports, timed, only_if, only};
 ghost use Rattle.ports.specs.Answers.{said_time};
 ghost use Rattle.ports.specs.Delays.{largest, total, delay_said, elapsed, total_from, counted_from, gap, gaps, between, sum_most};
 
 use crate::active::entry_place;
-use crate::place::{NOWHERE, port_at, timed_at};
-use crate::{Port, Ports, TimeAnswer};
-
-// A sum of delays has 32 bits.
-pub(crate) const SUM_MOST: u64 = 4294967295;
+use crate::{Port, Ports};
+use std::array;
 
 // A delay; one of 0 is absent.
-pub(crate) fn delay(t: u32) -> TimeAnswer
-    ensures { said_time result ≡ delay_said t }
+#[tactic(auto, unfolding(crate::specs::Delays::delay_said))]
+pub(crate) fn delay(t: u32) -> Option<u32>
+    ensures { said_time (Ok result) ≡ delay_said t }
 {
-    if t == 0 {
-        TimeAnswer::Absent
-    } else {
-        TimeAnswer::Time(t)
-    }
-}
-
-// a less b, never below 0.
-fn less(a: u32, b: u32) -> u32
-    ensures { result ≡ a - b }
-{
-    if b < a { a - b } else { 0 }
-}
-
-// The larger of a time and that of the place k, if it is active.
-fn later(p: Ports, time: u32, k: usize) -> u32
-    requires { k < nowhere }
-    ensures { result ≡ taking (active_at p) (λ t j. max t (time_at p j)) time k }
-{
-    let q = port_at(p, k);
-    if q.active {
-        if time < q.dc_receive_time {
-            q.dc_receive_time
-        } else {
-            time
-        }
-    } else {
-        time
-    }
+    if t == 0 { None } else { Some(t) }
 }
 
 // The largest time of an active port, 0 if there is none.
 fn largest_time(p: Ports) -> u32
     ensures { result ≡ largest (map (time_at p) (active_ports p)) }
 {
-    later(p, later(p, later(p, later(p, 0, 0), 1), 2), 3)
+    p.0.iter()
+        .filter(|q| q.active)
+        .map(|q| q.dc_receive_time)
+        .max()
+        .unwrap_or(0)
 }
 
 // The largest less the smallest time of the active ports: the smallest is the entry's.
+#[tactic(auto, using(crate::proofs::Laws::totals))]
 pub(crate) fn total_time(p: Ports) -> u32
     ensures { result ≡ total p }
 {
-    let e = entry_place(p);
-    if e < NOWHERE {
-        less(largest_time(p), port_at(p, e).dc_receive_time)
-    } else {
-        0
+    match entry_place(p) {
+        None => 0,
+        Some(e) => largest_time(p).saturating_sub(p.0[e].dc_receive_time),
     }
 }
 
-// The port at a place with the time that has elapsed there since e, round.
-fn since(p: Ports, e: u32, k: usize) -> Port
-    requires { k < nowhere }
-    ensures { result ≡ timed (port_at p k) (elapsed e (time_at p k)) }
+// The port with the time that has elapsed at it since e, on a clock that may turn over.
+#[tactic(auto, unfolding(crate::specs::Delays::elapsed))]
+fn since(q: Port, e: u32) -> Port
+    ensures { result ≡ timed q (elapsed e q.dc_receive_time) }
 {
-    let q = port_at(p, k);
-    timed_at(p, k, std::num::wrapping_sub_u32(q.dc_receive_time, e))
+    Port {
+        dc_receive_time: q.dc_receive_time.wrapping_sub(e),
+        ..q
+    }
 }
 
 // The record whose times are those elapsed since e.
 fn counted_from(p: Ports, e: u32) -> Ports
     ensures { result ≡ counted_from p e }
 {
-    Ports([
-        since(p, e, 0),
-        since(p, e, 1),
-        since(p, e, 2),
-        since(p, e, 3),
-    ])
+    Ports(p.0.map(|q| since(q, e)))
 }
 
 // The largest time that has elapsed at an active port since the place k.
+#[tactic(auto, using(crate::proofs::From::counted))]
 pub(crate) fn total_since(p: Ports, k: usize) -> u32
     requires { k < nowhere }
     ensures { result ≡ total_from p k }
 {
-    largest_time(counted_from(p, port_at(p, k).dc_receive_time))
+    largest_time(counted_from(p, p.0[k].dc_receive_time))
 }
 
 // The port at a place, active only if the place lies from one to another.
@@ -99,18 +70,9 @@ fn kept(p: Ports, from: usize, to: usize, k: usize) -> Port
     requires { k < nowhere }
     ensures { result ≡ only_if (port_at p k) (between from to k) }
 {
-    let a = p.0;
-    let q = a[k];
-    let link = q.downstream_to;
     Port {
-        active: if from <= k {
-            if k <= to { q.active } else { false }
-        } else {
-            false
-        },
-        dc_receive_time: q.dc_receive_time,
-        number: q.number,
-        downstream_to: link,
+        active: p.0[k].active && (from..=to).contains(&k),
+        ..p.0[k]
     }
 }
 
@@ -118,42 +80,33 @@ fn kept(p: Ports, from: usize, to: usize, k: usize) -> Port
 pub(crate) fn narrowed(p: Ports, from: usize, to: usize) -> Ports
     ensures { result ≡ only (between from to) p }
 {
-    Ports([
-        kept(p, from, to, 0),
-        kept(p, from, to, 1),
-        kept(p, from, to, 2),
-        kept(p, from, to, 3),
-    ])
+    Ports(array::from_fn(|k| kept(p, from, to, k)))
 }
 
 // What the neighbouring places k and k + 1 add: the later less the earlier time, if both are active.
+#[tactic(auto, unfolding(crate::specs::Delays::gap))]
 fn gap_at(p: Ports, k: usize) -> u64
     requires { k + 1 < nowhere }
     ensures { (result ≡ gap p k) × (result ≤ sum_most) }
 {
-    let a = port_at(p, k);
-    let b = port_at(p, k + 1);
-    if a.active {
-        if b.active {
-            less(b.dc_receive_time, a.dc_receive_time) as u64
-        } else {
-            0
-        }
+    let here = p.0[k];
+    let next = p.0[k + 1];
+    if here.active && next.active {
+        u64::from(next.dc_receive_time.saturating_sub(here.dc_receive_time))
     } else {
         0
     }
 }
 
 // The sum over the pairs whose first lies before the place k.
+#[tactic(auto, unfolding(crate::specs::Delays::gaps))]
 pub(crate) fn gaps_before(p: Ports, k: usize) -> u64
     requires { k < nowhere }
     ensures { result ≡ gaps p k }
 {
-    let mut sum = 0u64;
-    let mut j = 0usize;
-    while j < k {
+    let mut sum = 0;
+    for j in 0..k {
         sum += gap_at(p, j);
-        j += 1;
     }
     sum
 }

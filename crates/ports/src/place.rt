@@ -1,13 +1,13 @@
-// One place of the record: which port it holds, the port there, and the port made anew with one field changed.
-ghost use Rattle.std.specs.Prelude.{◌≡◌, ◌<◌, ◌&&◌};
-ghost use Rattle.refusal.specs.Said.{absent};
-ghost use Rattle.ports.specs.Ports.{port_count, nowhere, number_at, place_of, port_at, active_at, linked_at, fresh_port, timed, link_set};
-ghost use Rattle.ports.specs.Answers.{said_port, port_said};
+// One place of the record: which port it holds, and the record with one field of it changed.
+ghost use Rattle.std.specs.Prelude.{◌≡◌, ◌<◌, ◌≤◌, MatchResult};
+ghost use Rattle.refusal.specs.declared.Refusal.TheVariants.{BadPort};
+ghost use Rattle.ports.specs.Ports.{port_count, nowhere, number_at, place_of, fresh_port, link_set};
 
-use crate::{Link, Port, PortAnswer, Ports};
+use crate::{Port, Ports};
+use refusal::Refusal;
 
-// The place of no port: one past the last.
-pub(crate) const NOWHERE: usize = 4;
+// How many places there are. A place is a plain number below this and no type of its own: the definitions count with it (`between`, `assignable`).
+pub(crate) const PLACE_COUNT: usize = 4;
 
 // The number of the port at each place.
 const NUMBERS: [u8; 4] = [0, 3, 1, 2];
@@ -23,50 +23,11 @@ pub(crate) fn number_at(k: usize) -> u8
     NUMBERS[k]
 }
 
-// The place of the port with a number.
-pub(crate) fn place_of(n: u8) -> usize
-    requires { n < port_count }
-    ensures { (result ≡ place_of n) × (result < nowhere) }
+// The place of the port with a number. Refuses 10.
+pub(crate) fn place_of(n: u8) -> Result<usize, Refusal>
+    ensures { MatchResult result (λ k. (n < port_count) × (k ≡ place_of n) × (k < nowhere)) (λ e. (port_count ≤ n) × (e ≡ BadPort)) }
 {
-    PLACES[n as usize]
-}
-
-// The number of the port at a place; nowhere: absent.
-pub(crate) fn port_or_absent(k: usize) -> PortAnswer
-    ensures { said_port result ≡ port_said k absent }
-{
-    if k < NOWHERE {
-        PortAnswer::At(number_at(k))
-    } else {
-        PortAnswer::Absent
-    }
-}
-
-// The port at a place.
-pub(crate) fn port_at(p: Ports, k: usize) -> Port
-    requires { k < nowhere }
-    ensures { result ≡ port_at p k }
-{
-    let a = p.0;
-    a[k]
-}
-
-// Whether the port at a place is active and linked to this device.
-pub(crate) fn leads_to(p: Ports, k: usize, device: u16) -> bool
-    requires { k < nowhere }
-    ensures { result ≡ active_at p k && linked_at p device k }
-{
-    let a = p.0;
-    let q = a[k];
-    if q.active {
-        let link = q.downstream_to;
-        match link {
-            Link::Free => false,
-            Link::To(d) => d == device,
-        }
-    } else {
-        false
-    }
+    PLACES.get(usize::from(n)).copied().ok_or(Refusal::BadPort)
 }
 
 // A port with this number and no time and no link.
@@ -77,38 +38,16 @@ pub(crate) fn fresh_port(active: bool, number: u8) -> Port
         active,
         dc_receive_time: 0,
         number,
-        downstream_to: Link::Free,
-    }
-}
-
-// The port at a place with this receive time.
-pub(crate) fn timed_at(p: Ports, k: usize, time: u32) -> Port
-    requires { k < nowhere }
-    ensures { result ≡ timed (port_at p k) time }
-{
-    let a = p.0;
-    let q = a[k];
-    let link = q.downstream_to;
-    Port {
-        active: q.active,
-        dc_receive_time: time,
-        number: q.number,
-        downstream_to: link,
+        downstream_to: None,
     }
 }
 
 // The record in which the port at a place is linked to this device.
-pub(crate) fn linked_at(p: Ports, k: usize, device: u16) -> Ports
+#[tactic(auto, unfolding(crate::specs::Ports::link_set))]
+pub(crate) fn linked_at(mut p: Ports, k: usize, device: u16) -> Ports
     requires { k < nowhere }
     ensures { result ≡ link_set p k device }
 {
-    let mut a = p.0;
-    let q = a[k];
-    a[k] = Port {
-        active: q.active,
-        dc_receive_time: q.dc_receive_time,
-        number: q.number,
-        downstream_to: Link::To(device),
-    };
-    Ports(a)
+    p.0[k].downstream_to = Some(device);
+    p
 }

@@ -1,21 +1,15 @@
 // The text of a device's ports, word by word into a lent buffer.
-ghost use Rattle.std.specs.Prelude.{◌≡◌, ◌+◌, ◌<◌, ◌≤◌, length};
+ghost use Rattle.std.specs.Prelude.{◌≡◌, ◌+◌, ◌≤◌, length};
 ghost use Rattle.wire.specs.Bytes.{laid, overlay};
 ghost use Rattle.ports.specs.Display.{opening, word_of, word_most, words, text_of, text_most};
 ghost use Rattle.ports.specs.Ports.{port_count};
 
 use crate::Ports;
 use crate::active::count;
-use crate::place::{NOWHERE, port_at};
 use wire::lay;
 
 // The bytes of `ports [ `.
 const OPENING_BYTES: usize = 8;
-
-// .. of an active port's word, and of another's.
-const OPEN_BYTES: usize = 5;
-
-const CLOSED_BYTES: usize = 7;
 
 // By how many an active port's word is shorter.
 const SHORTER: usize = 2;
@@ -24,10 +18,20 @@ const SHORTER: usize = 2;
 const TEXT_MOST: usize = 37;
 
 // How long the text is: an active port's word is two bytes shorter.
+#[tactic(auto, using(crate::proofs::Words::length_text))]
 pub(crate) fn text_len(p: Ports) -> usize
     ensures { result ≡ length (text_of p) }
 {
-    TEXT_MOST - SHORTER * (count(p) as usize)
+    TEXT_MOST - SHORTER * count(p)
+}
+
+// The word of an active port, or of another.
+#[tactic(auto, unfolding(crate::specs::Display::word_of))]
+fn word_of(active: bool) -> &'static [u8]
+    ensures word { result.now ≡ word_of active }
+    ensures most { length result.now ≤ word_most }
+{
+    if active { b"open " } else { b"closed " }
 }
 
 // Lays a port's word over the buffer; the place behind it.
@@ -36,13 +40,9 @@ fn put_word(buf: &mut [u8], at: usize, active: bool) -> usize
     ensures value { (result ≡ at + length (word_of active)) × (result ≤ at + word_most) }
     ensures buf_after { buf.new ≡ laid buf.old at (word_of active) }
 {
-    if active {
-        lay(buf, at, b"open ");
-        at + OPEN_BYTES
-    } else {
-        lay(buf, at, b"closed ");
-        at + CLOSED_BYTES
-    }
+    let word = word_of(active);
+    lay(buf, at, word);
+    at + word.len()
 }
 
 // Lays the words over the buffer behind the opening; the place behind them.
@@ -52,15 +52,14 @@ fn put_words(p: Ports, buf: &mut [u8]) -> usize
     ensures buf_after { buf.new ≡ overlay buf.old (length opening) (words p port_count) }
 {
     let mut at = OPENING_BYTES;
-    let mut k = 0usize;
-    while k < NOWHERE {
-        at = put_word(buf, at, port_at(p, k).active);
-        k += 1;
+    for q in p.0 {
+        at = put_word(buf, at, q.active);
     }
     at
 }
 
 // Lays the text over the front of a buffer that is long enough.
+#[tactic(auto, using(crate::proofs::Words::text_room, crate::proofs::Words::text_laid))]
 pub(crate) fn put_text(p: Ports, buf: &mut [u8])
     requires { length (text_of p) ≤ length buf.old }
     ensures { buf.new ≡ overlay buf.old 0 (text_of p) }

@@ -1,5 +1,6 @@
 -- Which frames are accepted: a frame of PDUs that are the handles', and no other. One way by induction over the PDUs, the other over the handles, to the places that the reader finds.
 use mathlib.Core.Path.{◌≡◌, refl, ap, sym, ◌∙◌}
+use Rattle.std.specs.Prelude.{Ok, Err}
 use mathlib.Core.Bool.{Bool, true, false}
 use Prim.Native.Nat.{ℕ, suc, ◌+◌, ◌-◌, ◌≤◌, ◌<◌}
 use native.Mathlib.Omega.{arith}
@@ -18,9 +19,7 @@ use Rattle.pdu.proofs.Laws.{rightly-last, rightly-more, rightly-fits, body-last,
 use Rattle.pdu.proofs.Rows.{layout-none, layout-length}
 use Rattle.created_frame.specs.declared.PduResponseHandle.{PduResponseHandle}
 use Rattle.received.specs.declared.ReceivedPdu.{ReceivedPdu}
-use Rattle.received.specs.declared.Verdict.{Verdict}
-use Rattle.received.specs.declared.Verdict.TheVariants.{Right, Wrong}
-use Rattle.received.specs.Matching.{came_back, compared, judged, Receiving, refused, got, unless, more, matched_at}
+use Rattle.received.specs.Matching.{Verdict, right, came_back, compared, judged, Receiving, refused, got, unless, more, matched_at}
 use Rattle.received.specs.Receives.{Stood, Each, Alike}
 use Rattle.received.proofs.Laws.{compared_same, walk_missing, walk_spare, walk_done}
 
@@ -51,14 +50,14 @@ module _ (s : List ℕ) (i end : ℕ) (p : Pdu) where
       rightly-more i end flags m (omega (arith, layout-length q ps))
 
   stood-right : (h : PduResponseHandle) (hs : List PduResponseHandle) (k m : ℕ) → Stood (shown i p m) (seen_at s i) → rightly i end flags ≡ true
-      → p.command ≡ h.command → p.index ≡ h.index → length p.payload + 12 ≡ h.size → judged (h ∷ hs) s i end k ≡ Right
+      → p.command ≡ h.command → p.index ≡ h.index → length p.payload + 12 ≡ h.size → judged (h ∷ hs) s i end k ≡ right
   unfolding judged
   stood-right h hs k m t r a b c =
       let v = seen_at s i in
       let x : v.len + 12 ≡ h.size = ap (λ (z : ℕ). z + 12) t.length_same ∙ c in
       rw r (compared_same h v.command v.index v.len k (t.command_same ∙ a) (t.index_same ∙ b) x)
 
-  stood-step : (h : PduResponseHandle) (hs : List PduResponseHandle) (k m : ℕ) → judged (h ∷ hs) s i end k ≡ Right → Stood (shown i p m) (seen_at s i)
+  stood-step : (h : PduResponseHandle) (hs : List PduResponseHandle) (k m : ℕ) → judged (h ∷ hs) s i end k ≡ right → Stood (shown i p m) (seen_at s i)
       → (l : List ReceivedPdu) → matched_at hs s (i + (12 + length p.payload)) end (suc k) ≡ got l → matched_at (h ∷ hs) s i end k ≡ got (came_back (seen_at s i) ∷ l)
   unfolding matched_at seen_at
   stood-step h hs k m v t l rest =
@@ -100,9 +99,9 @@ itself_stands ps s i e = stood_stands ps s s i e (each_stood s (starts i ps))
 
 -- ---- what is accepted
 
-unless-got : (v : Verdict) (r : Receiving) (l : List ReceivedPdu) → unless v r ≡ got l → (v ≡ Right) × (r ≡ got l)
-unless-got Right r l e = (refl, e)
-unless-got (Wrong x) r l e = let z : ◌≡◌ {A = ℕ} 0 1 = cc in absurd (omega arith)
+unless-got : (v : Verdict) (r : Receiving) (l : List ReceivedPdu) → unless v r ≡ got l → (v ≡ right) × (r ≡ got l)
+unless-got (Ok d) r l e = (refl, e)
+unless-got (Err x) r l e = let z : ◌≡◌ {A = ℕ} 0 1 = cc in absurd (omega arith)
 
 more-got : (p : ReceivedPdu) (r : Receiving) (l : List ReceivedPdu) → more p r ≡ got l → (m : List ReceivedPdu) × (r ≡ got m) × (l ≡ p ∷ m)
 more-got p (refused x) l e = let z : ◌≡◌ {A = ℕ} 0 1 = cc in absurd (omega arith)
@@ -111,7 +110,7 @@ more-got p (got m) l e = (m, refl, cc)
 refused_not : (x : Refusal) (l : List ReceivedPdu) → refused x ≡ got l → ⊥
 refused_not x l e = let z : ◌≡◌ {A = ℕ} 0 1 = cc in omega arith
 
-wrong_not : (x : Refusal) → Wrong x ≡ Right → ⊥
+wrong_not : (x : Refusal) → ◌≡◌ {A = Verdict} (Err x) right → ⊥
 wrong_not x e = let z : ◌≡◌ {A = ℕ} 0 1 = cc in omega arith
 
 -- commands, indices and lengths as they are seen
@@ -128,25 +127,25 @@ seen_alike [] i (p ∷ ps) a = a
 seen_alike (h ∷ hs) i [] a = a
 seen_alike (h ∷ hs) i (p ∷ ps) a = (a.0, a.1, a.2, seen_alike hs (i + (12 + length p.payload)) ps a.3)
 
-compared-right : (h : PduResponseHandle) (command index len k : ℕ) → compared h command index len k ≡ Right → (command ≡ h.command) × (index ≡ h.index) × (len + 12 ≡ h.size)
+compared-right : (h : PduResponseHandle) (command index len k : ℕ) → compared h command index len k ≡ right → (command ≡ h.command) × (index ≡ h.index) × (len + 12 ≡ h.size)
 unfolding compared
 compared-right h command index len k = go (eqb command h.command) (eqb index h.index) (eqb (len + 12) h.size) refl refl refl
   where
     go : (a b c : Bool) → eqb command h.command ≡ a → eqb index h.index ≡ b → eqb (len + 12) h.size ≡ c
-        → pick a (pick b (pick c Right (Wrong (WrongLength k))) (Wrong (WrongIndex k))) (Wrong (WrongCommand k)) ≡ Right
+        → pick a (pick b (pick c right (Err (WrongLength k))) (Err (WrongIndex k))) (Err (WrongCommand k)) ≡ right
         → (command ≡ h.command) × (index ≡ h.index) × (len + 12 ≡ h.size)
     go true true true p q r e = (eqb-true _ _ p, eqb-true _ _ q, eqb-true _ _ r)
     go true true false p q r e = absurd (wrong_not _ e)
     go true false c p q r e = absurd (wrong_not _ e)
     go false b c p q r e = absurd (wrong_not _ e)
 
-judged-right : (h : PduResponseHandle) (hs : List PduResponseHandle) (s : List ℕ) (i end k : ℕ) → judged (h ∷ hs) s i end k ≡ Right
+judged-right : (h : PduResponseHandle) (hs : List PduResponseHandle) (s : List ℕ) (i end k : ℕ) → judged (h ∷ hs) s i end k ≡ right
     → let v = seen_at s i in
     (rightly i end (le16 s (i + 6)) ≡ true) × (v.command ≡ h.command) × (v.index ≡ h.index) × (v.len + 12 ≡ h.size)
 unfolding judged
 judged-right h hs s i end k e = go (rightly i end (le16 s (i + 6))) refl e
   where
-    go : (b : Bool) → rightly i end (le16 s (i + 6)) ≡ b → pick b (compared h (seen_at s i).command (seen_at s i).index (seen_at s i).len k) (Wrong (WrongFrame k)) ≡ Right
+    go : (b : Bool) → rightly i end (le16 s (i + 6)) ≡ b → pick b (compared h (seen_at s i).command (seen_at s i).index (seen_at s i).len k) (Err (WrongFrame k)) ≡ right
         → (rightly i end (le16 s (i + 6)) ≡ true) × ((seen_at s i).command ≡ h.command) × ((seen_at s i).index ≡ h.index) × ((seen_at s i).len + 12 ≡ h.size)
     go true r q = let t = compared-right h (seen_at s i).command (seen_at s i).index (seen_at s i).len k q in (r, t.0, t.1, t.2)
     go false r q = absurd (wrong_not _ q)

@@ -9,6 +9,8 @@ use lib.Dec.{eqb}
 use lib.Seq.{take_at, drop_at}
 use borrow.Author.Tests.{eq-eqb, eqb-true, eqb-false}
 use Rattle.refusal.specs.Said.{pick}
+use Rattle.std.specs.Prelude.{Result, Ok, Err}
+use Rattle.refusal.specs.declared.Refusal.{Refusal}
 use Rattle.refusal.specs.declared.Refusal.TheVariants.{BadArgument, WrongFrame}
 use Rattle.wire.specs.Bytes.{le16, Bytes}
 use Rattle.pdu.specs.declared.PduFields.{PduFields}
@@ -22,7 +24,6 @@ use Rattle.created_frame.specs.Built.{Call, opened_with, run, run_adds, Addresse
 use Rattle.created_frame.proofs.Built.{run-well}
 use Rattle.received.specs.declared.ReceivedPdu.{ReceivedPdu}
 use Rattle.received.specs.declared.Received.{Received}
-use Rattle.received.specs.declared.ReceivedAnswer.TheVariants.{Matched, No}
 use Rattle.received.specs.Matching.{handles_in, came_back, Receiving, refused, got, matched_at, matched, received_of}
 use Rattle.received.specs.Answers.{unused, padded, told}
 use Rattle.received.specs.Receives.{run_handles, frame_in, InTransit, Alike, payload_in, Lists, Receives}
@@ -117,32 +118,40 @@ module _ (row s : List ℕ) (bytes : Bytes s) (l : List ReceivedPdu) where
 
 -- ---- the answer
 
-module _ (row s : List ℕ) (r : Received) (met : r ≡ told (received_of row s)) where
-  matched-lists : (l : List ReceivedPdu) → received_of row s ≡ got l → (r.answer ≡ Matched) × Lists l r
+module _ (row s : List ℕ) (r : Result Received Refusal) (met : r ≡ told (received_of row s)) where
+  matched-lists : (vs : List ReceivedPdu) → received_of row s ≡ got vs → (l : Received) × (r ≡ Ok l) × Lists vs l
   unfolding told padded
-  matched-lists l e =
-      let q : r ≡ told (got l) = met ∙ ap told e in
-      rw q (refl, record { count_is = refl; pdus_are = take_at l (unused (pdus_most - length l)) (length l) refl; rest_unused = drop_at l (unused (pdus_most - length l)) (length l) refl })
+  matched-lists vs e = (
+    record { count = length vs; pdus = padded vs },
+    met ∙ ap told e,
+    record {
+      count_is = refl;
+      pdus_are = take_at vs (unused (pdus_most - length vs)) (length vs) refl;
+      rest_unused = drop_at vs (unused (pdus_most - length vs)) (length vs) refl;
+    },
+  )
 
-  answered : r.answer ≡ Matched → (l : List ReceivedPdu) × (received_of row s ≡ got l)
+  answered : (l : Received) → r ≡ Ok l → (vs : List ReceivedPdu) × (received_of row s ≡ got vs) × Lists vs l
   unfolding told
-  answered p = go (received_of row s) refl
+  answered l p = go (received_of row s) refl
     where
-      go : (v : Receiving) → received_of row s ≡ v → (l : List ReceivedPdu) × (received_of row s ≡ got l)
-      go (got l) e = (l, e)
+      go : (v : Receiving) → received_of row s ≡ v → (vs : List ReceivedPdu) × (received_of row s ≡ got vs) × Lists vs l
+      go (got vs) e =
+          let m = matched-lists vs e in
+          let same : ◌≡◌ {A = Result Received Refusal} (Ok m.0) (Ok l) = sym m.1 ∙ p in
+          let is : m.0 ≡ l = cc in
+          (vs, e, rw (← is) m.2)
       go (refused x) e =
-          let q : r ≡ told (refused x) = met ∙ ap told e in
-          let n : No x ≡ Matched = sym (ap (λ (z : Received). z.answer) q) ∙ p in
+          let q : ◌≡◌ {A = Result Received Refusal} (Err x) (Ok l) = sym (met ∙ ap told e) ∙ p in
           let z : ◌≡◌ {A = ℕ} 0 1 = cc in absurd (omega arith)
 
-  accepted : Bytes s → r.answer ≡ Matched
-      → (ps : List Pdu) × WellFormed s ps × Alike (handles_in row) ps × Lists (map came_back (shown_all 2 ps)) r
-      × (map (payload_in s) (take r.count r.pdus) ≡ map (λ (p : Pdu). p.payload) ps)
-  accepted known p =
-      let a = answered p in
+  accepted : Bytes s → (l : Received) → r ≡ Ok l
+      → (ps : List Pdu) × WellFormed s ps × Alike (handles_in row) ps × Lists (map came_back (shown_all 2 ps)) l
+      × (map (payload_in s) (take l.count l.pdus) ≡ map (λ (p : Pdu). p.payload) ps)
+  accepted known l p =
+      let a = answered l p in
       let w = got-shown row s known a.0 a.1 in
-      let m = matched-lists a.0 a.1 in
-      (w.ps, w.well, w.alike, rw (← w.given_is) m.1, ap (map (payload_in s)) m.1.pdus_are ∙ w.payloads)
+      (w.ps, w.well, w.alike, rw (← w.given_is) a.2, ap (map (payload_in s)) a.2.pdus_are ∙ w.payloads)
 
   -- THE THEOREM
   pub receives : Receives row s r

@@ -1,9 +1,9 @@
 -- The answer of what is found (RULES, received). Definitions only.
-use Rattle.std.specs.Prelude.{ℕ, ◌-◌, List, [], ◌++◌, length, replicate}
+use Rattle.std.specs.Prelude.{ℕ, ◌-◌, List, ◌++◌, length, replicate, Result, Ok, Err}
+use Rattle.refusal.specs.declared.Refusal.{Refusal}
 use Rattle.pdu.specs.Pdu.{pdus_most}
 use Rattle.received.specs.declared.ReceivedPdu.{ReceivedPdu}
 use Rattle.received.specs.declared.Received.{Received}
-use Rattle.received.specs.declared.ReceivedAnswer.TheVariants.{Matched, No}
 use Rattle.received.specs.Matching.{Receiving, refused, got}
 
 -- what an unused place holds
@@ -17,7 +17,7 @@ unused n = replicate n none_pdu
 unfoldable pub padded : List ReceivedPdu → List ReceivedPdu
 padded ps = ps ++ unused (pdus_most - length ps)
 
--- a refusal comes with an empty list
-unfoldable pub told : Receiving → Received
-told (refused x) = record { answer = No x; count = 0; pdus = padded [] }
-told (got ps) = record { answer = Matched; count = length ps; pdus = padded ps }
+-- a refusal, or the list
+unfoldable pub told : Receiving → Result Received Refusal
+told (refused x) = Err x
+told (got ps) = Ok (record { count = length ps; pdus = padded ps })

@@ -1,5 +1,5 @@
 -- What is found of a frame that came back, PDU by PDU, against the handles that were kept (RULES, received). Definitions only.
-use Rattle.std.specs.Prelude.{ℕ, suc, ◌+◌, ◌%◌, List, [], ◌∷◌, length, eqb}
+use Rattle.std.specs.Prelude.{ℕ, suc, ◌+◌, ◌%◌, List, [], ◌∷◌, length, get_or, eqb, Result, Ok, Err, ⊤}
 use Rattle.refusal.specs.Said.{pick}
 use Rattle.refusal.specs.declared.Refusal.{Refusal}
 use Rattle.refusal.specs.declared.Refusal.TheVariants.{BadArgument, WrongFrame, WrongCommand, WrongIndex, WrongLength}
@@ -9,8 +9,6 @@ use Rattle.pdu.specs.Pdu.{pdu_overhead, frame_header_bytes, flags_at}
 use Rattle.pdu.specs.Read.{length_of, pdu_end, rightly, headed, seen_at}
 use Rattle.created_frame.specs.declared.PduResponseHandle.{PduResponseHandle}
 use Rattle.received.specs.declared.ReceivedPdu.{ReceivedPdu}
-use Rattle.received.specs.declared.Verdict.{Verdict}
-use Rattle.received.specs.declared.Verdict.TheVariants.{Right, Wrong}
 
 -- the numbers of a handle
 abbrev pub handle_numbers : ℕ
@@ -24,6 +22,17 @@ handles_in (a ∷ b ∷ []) = []
 handles_in (a ∷ b ∷ c ∷ []) = []
 handles_in (start ∷ size ∷ index ∷ command ∷ row) = record { start = start; size = size; index = index; command = command } ∷ handles_in row
 
+-- .. the handle of four numbers
+abbrev pub handle_of : List ℕ → PduResponseHandle
+handle_of c = record { start = get_or c 0 0; size = get_or c 1 0; index = get_or c 2 0; command = get_or c 3 0 }
+
+-- what is found of one PDU: it is right, or its first fault
+abbrev pub Verdict : Type 0
+Verdict = Result ⊤ Refusal
+
+abbrev pub right : Verdict
+right = Ok tt
+
 -- what is given of a PDU: where its payload lies, how long it is, and its working counter
 abbrev pub came_back : PduFields → ReceivedPdu
 came_back v = record { place = v.place; len = v.len; counter = v.counter }
@@ -32,15 +41,15 @@ came_back v = record { place = v.place; len = v.len; counter = v.counter }
 unfoldable pub compared : PduResponseHandle → ℕ → ℕ → ℕ → ℕ → Verdict
 compared h command index len k =
     pick (eqb command h.command)
-    (pick (eqb index h.index) (pick (eqb (len + pdu_overhead) h.size) Right (Wrong (WrongLength k))) (Wrong (WrongIndex k)))
-    (Wrong (WrongCommand k))
+    (pick (eqb index h.index) (pick (eqb (len + pdu_overhead) h.size) right (Err (WrongLength k))) (Err (WrongIndex k)))
+    (Err (WrongCommand k))
 
 -- .. after its end; the handles are those from the k-th on, and a PDU without one is a frame's fault too
 unfoldable pub judged : List PduResponseHandle → List ℕ → ℕ → ℕ → ℕ → Verdict
-judged [] s i end k = Wrong (WrongFrame k)
+judged [] s i end k = Err (WrongFrame k)
 judged (h ∷ hs) s i end k =
     let v = seen_at s i in
-    pick (rightly i end (le16 s (i + flags_at))) (compared h v.command v.index v.len k) (Wrong (WrongFrame k))
+    pick (rightly i end (le16 s (i + flags_at))) (compared h v.command v.index v.len k) (Err (WrongFrame k))
 
 -- what is found of a frame: a fault, or what came back of its PDUs
 pub data Receiving : Type 0 where
@@ -48,8 +57,8 @@ pub data Receiving : Type 0 where
   got : List ReceivedPdu → Receiving
 
 abbrev pub unless : Verdict → Receiving → Receiving
-unless Right r = r
-unless (Wrong x) r = refused x
+unless (Ok d) r = r
+unless (Err x) r = refused x
 
 abbrev pub more : ReceivedPdu → Receiving → Receiving
 more p (refused x) = refused x

@@ -1,5 +1,5 @@
 -- What `receive` does, said of its own result r, for the row of handles and the frame s that it was called with (RULES, received). Definitions only.
-use Rattle.std.specs.Prelude.{◌≡◌, ℕ, ◌+◌, ◌-◌, ◌%◌, ◌≤◌, List, [], ◌∷◌, ◌++◌, map, length, take, drop}
+use Rattle.std.specs.Prelude.{◌≡◌, ℕ, ◌+◌, ◌-◌, ◌%◌, ◌≤◌, List, [], ◌∷◌, ◌++◌, map, length, take, drop, Result, Ok}
 use Rattle.refusal.specs.Said.{Said, gives, absent, refuses}
 use Rattle.wire.specs.Bytes.{le16, Bytes}
 use Rattle.pdu.specs.declared.PduFields.{PduFields}
@@ -11,7 +11,7 @@ use Rattle.created_frame.specs.Frame.{pushed, rest_pushed}
 use Rattle.created_frame.specs.Built.{Call, a_push, a_rest, Kept, opened_with, called, run, run_adds, Addressed}
 use Rattle.received.specs.declared.Received.{Received}
 use Rattle.received.specs.declared.ReceivedPdu.{ReceivedPdu}
-use Rattle.received.specs.declared.ReceivedAnswer.TheVariants.{Matched}
+use Rattle.refusal.specs.declared.Refusal.{Refusal}
 use Rattle.received.specs.Matching.{handle_numbers, handles_in, came_back}
 use Rattle.received.specs.Answers.{unused}
 
@@ -74,16 +74,16 @@ pub record Lists (vs : List ReceivedPdu) (r : Received) : Type 0 where
   pub pdus_are : take r.count r.pdus ≡ vs
   pub rest_unused : drop r.count r.pdus ≡ unused (pdus_most - r.count)
 
-pub record Receives (row s : List ℕ) (r : Received) : Type 0 where
+pub record Receives (row s : List ℕ) (r : Result Received Refusal) : Type 0 where
   -- a frame that our pushes made on an opened area, refused ones among them, is accepted after transit with the handles that they gave; given is what then stands at the places of the PDUs
   pub ours_accepted : (xs : List ℕ) (index : ℕ) (cs : List Call) → length xs ≤ area_most → Addressed cs
       → let k = opened_with xs index in
       row ≡ run_handles k cs → InTransit (frame_in (run k cs)) s (run_adds k cs)
-      → (r.answer ≡ Matched) × Lists (map came_back (map (seen_at s) (starts frame_header_bytes (run_adds k cs)))) r
+      → (l : Received) × (r ≡ Ok l) × Lists (map came_back (map (seen_at s) (starts frame_header_bytes (run_adds k cs)))) l
   -- so is every well-formed frame whose PDUs are the handles'
   pub frame_accepted : (ps : List Pdu) → WellFormed s ps → length row % handle_numbers ≡ 0 → Alike (handles_in row) ps
-      → (r.answer ≡ Matched) × Lists (map came_back (shown_all frame_header_bytes ps)) r
+      → (l : Received) × (r ≡ Ok l) × Lists (map came_back (shown_all frame_header_bytes ps)) l
   -- and nothing else: what is accepted is such a frame, and given are its payloads and working counters
-  pub accepted_frame : Bytes s → r.answer ≡ Matched
-      → (ps : List Pdu) × WellFormed s ps × Alike (handles_in row) ps × Lists (map came_back (shown_all frame_header_bytes ps)) r
-      × (map (payload_in s) (take r.count r.pdus) ≡ map (λ (p : Pdu). p.payload) ps)
+  pub accepted_frame : Bytes s → (l : Received) → r ≡ Ok l
+      → (ps : List Pdu) × WellFormed s ps × Alike (handles_in row) ps × Lists (map came_back (shown_all frame_header_bytes ps)) l
+      × (map (payload_in s) (take l.count l.pdus) ≡ map (λ (p : Pdu). p.payload) ps)

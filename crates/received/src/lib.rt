@@ -2,16 +2,16 @@
 // The place decides: the k-th handle is the k-th PDU's, whatever their indices are.
 #![tactic(auto)]
 
-ghost use Rattle.std.specs.Prelude.{◌≡◌, ◌+◌, ◌*◌, ◌≤◌, ◌<◌, [], drop};
+ghost use Rattle.std.specs.Prelude.{◌≡◌, ◌+◌, ◌≤◌, ◌<◌, [], ◌∷◌, map};
 ghost use Rattle.wire.specs.Bytes.{word_past};
-ghost use Rattle.pdu.specs.Pdu.{area_most, frame_header_bytes, pdus_most};
-ghost use Rattle.pdu.specs.Read.{headed, seen_at};
-ghost use Rattle.received.specs.Matching.{handle_numbers, handles_in, came_back, compared, judged, refused, matched_at, received_of};
-ghost use Rattle.received.specs.Answers.{padded, told};
+ghost use Rattle.pdu.specs.Pdu.{area_most, frame_header_bytes};
+ghost use Rattle.pdu.specs.Read.{seen_at};
+ghost use Rattle.received.specs.Matching.{handle_of, came_back, judged, matched_at, received_of};
+ghost use Rattle.received.specs.Answers.{told};
 
 use pdu::{
     FLAGS_AT, FRAME_HEADER_BYTES, HEADER_BYTES, INDEX_AT, LENGTH_PAST, PDU_OVERHEAD_BYTES,
-    PDUS_MOST, TYPE_BIT, ends_rightly,
+    PDUS_MOST, ends_rightly, pdus_end,
 };
 use refusal::Refusal;
 use wire::{byte_at, word_at};
@@ -19,151 +19,88 @@ use wire::{byte_at, word_at};
 // The numbers of a handle in a row: where the PDU starts in its area, its whole size, its index, its command.
 const HANDLE_NUMBERS: usize = 4;
 
-const SIZE_AT: usize = 1;
-
-const HANDLE_INDEX_AT: usize = 2;
-
-const COMMAND_AT: usize = 3;
-
 // What came back of a PDU: its payload lies at `place`, counted from the frame's first byte, for `len` bytes, and its working counter is this.
-#[derive(Clone, Copy)]
+#[derive(Clone, Copy, Default)]
 pub struct ReceivedPdu {
     pub place: usize,
     pub len: u16,
     pub counter: u16,
 }
 
-// What receiving a frame answers.
-#[derive(Clone, Copy)]
-pub enum ReceivedAnswer {
-    // Every PDU is its handle's, and the list has them.
-    Matched,
-    // 14: the row is no row of handles. 19, 20, 21, 22: the first fault in the frame's order. The list is empty.
-    No(Refusal),
-}
-
-// The answer, and the PDUs in order; a place past the count holds zeros.
+// The PDUs that came back, in order; a place past the count holds zeros.
+// The count stands beside an array because the memory is fixed, and because the promise says what every place holds.
 #[derive(Clone, Copy)]
 pub struct Received {
-    pub answer: ReceivedAnswer,
     pub count: usize,
     pub pdus: [ReceivedPdu; PDUS_MOST],
 }
 
-// What is found of one PDU.
-#[derive(Clone, Copy)]
-enum Verdict {
-    Right,
-    Wrong(Refusal),
-}
-
 // The payload and the working counter of each PDU of a frame that came back. The handles are those that pushing gave, in order, four numbers each.
-#[tactic(auto, unfolding(crate::specs::Matching::received_of, crate::specs::Matching::matched, pdu::specs::Read::headed))]
-pub fn receive(handles: &[u64], frame: &[u8]) -> Received
+// They are a row of numbers and no structs, since a rule speaks of numbers that are no row of handles: those are 14.
+// Else 19, 20, 21 or 22 is the first fault in the frame's order.
+pub fn receive(handles: &[u64], frame: &[u8]) -> Result<Received, Refusal>
     ensures { result ≡ told (received_of handles.now frame.now) }
 {
-    if handles.len() % HANDLE_NUMBERS != 0 {
-        return without(Refusal::BadArgument);
+    let (handles, over) = handles.as_chunks();
+    if !over.is_empty() {
+        return Err(Refusal::BadArgument);
     }
-    if is_headed(frame) {
-        let n = (word_at(frame, 0) % LENGTH_PAST) as usize;
-        match_all(handles, frame, n + FRAME_HEADER_BYTES)
-    } else {
-        without(Refusal::WrongFrame { place: 0 })
-    }
+    let end = pdus_end(frame).ok_or(Refusal::WrongFrame { place: 0 })?;
+    match_all(handles, frame, end)
 }
 
-// The frame's header is there, of type 1, and its length lies within the bytes.
-#[tactic(auto, unfolding(pdu::specs::Read::headed))]
-fn is_headed(s: &[u8]) -> bool
-    ensures { result ≡ headed s.now }
-{
-    if s.len() < FRAME_HEADER_BYTES {
-        return false;
-    }
-    let w = word_at(s, 0);
-    if w / TYPE_BIT != 1 {
-        return false;
-    }
-    if s.len() - FRAME_HEADER_BYTES < ((w % LENGTH_PAST) as usize) {
-        return false;
-    }
-    true
-}
-
-// The PDUs from the frame's header to `end`, each against its handle.
-fn match_all(handles: &[u64], s: &[u8], end: usize) -> Received
+// The PDUs from the frame's header to `end`, each against its handle. A handle more than there are PDUs is judged at the end, where none ends rightly.
+fn match_all(handles: &[[u64; HANDLE_NUMBERS]], s: &[u8], end: usize) -> Result<Received, Refusal>
     requires { (frame_header_bytes ≤ end) × (end ≤ area_most + frame_header_bytes) }
-    ensures { result ≡ told (matched_at (handles_in handles.now) s.now frame_header_bytes end 0) }
+    ensures { result ≡ told (matched_at (map handle_of handles.now) s.now frame_header_bytes end 0) }
 {
-    let mut pdus = no_pdus();
+    let mut pdus = [ReceivedPdu::default(); PDUS_MOST];
     let mut at = FRAME_HEADER_BYTES;
-    let mut k: usize = 0;
-    while at < end {
-        let v = judge(handles, s, at, end, k);
-        if let Verdict::Wrong(x) = v {
-            return without(x);
-        }
-        let p = came_back(s, at);
-        pdus[k] = p;
-        at += PDU_OVERHEAD_BYTES + (p.len as usize);
-        k += 1;
+    for (k, handle) in handles.iter().enumerate() {
+        judge(*handle, s, at, end, k as u16)?;
+        let pdu = came_back(s, at);
+        pdus[k] = pdu;
+        at += PDU_OVERHEAD_BYTES + usize::from(pdu.len);
     }
-    if HANDLE_NUMBERS * k + HANDLE_NUMBERS <= handles.len() {
-        return without(Refusal::WrongFrame { place: k as u16 });
+    let count = handles.len();
+    if at < end {
+        return Err(Refusal::WrongFrame {
+            place: count as u16,
+        });
     }
-    Received {
-        answer: ReceivedAnswer::Matched,
-        count: k,
-        pdus,
-    }
+    Ok(Received { count, pdus })
 }
 
-// The PDU at `at`, the k-th, against the k-th handle: that it has one and ends rightly comes first.
-#[tactic(auto, using(crate::proofs::Laws::handles_none, crate::proofs::Laws::handles_some), unfolding(crate::specs::Matching::judged, crate::specs::Matching::compared, pdu::specs::Read::seen_at))]
-fn judge(handles: &[u64], s: &[u8], at: usize, end: usize, k: usize) -> Verdict
-    requires { (at < word_past) × (k ≤ pdus_most) }
-    ensures { result ≡ judged (handles_in (drop (handle_numbers * k) handles.now)) s.now at end k }
+// The PDU at `at` against its handle: that it ends rightly comes first, then command, index and length. A handle's start isn't compared.
+#[tactic(auto, unfolding(crate::specs::Matching::judged, crate::specs::Matching::compared, pdu::specs::Read::seen_at))]
+fn judge(
+    handle: [u64; HANDLE_NUMBERS],
+    s: &[u8],
+    at: usize,
+    end: usize,
+    place: u16,
+) -> Result<(), Refusal>
+    requires { at < word_past }
+    ensures { result ≡ judged (handle_of handle ∷ []) s.now at end place }
 {
-    let place = k as u16;
-    let first = HANDLE_NUMBERS * k;
-    if handles.len() < first + HANDLE_NUMBERS {
-        return Verdict::Wrong(Refusal::WrongFrame { place });
-    }
+    let [_, size, index, command] = handle;
     let flags = word_at(s, at + FLAGS_AT);
-    if ends_rightly(at, end, flags) {
-        compare(
-            handles[first + SIZE_AT],
-            handles[first + HANDLE_INDEX_AT],
-            handles[first + COMMAND_AT],
-            byte_at(s, at),
-            byte_at(s, at + INDEX_AT),
-            flags % LENGTH_PAST,
-            place,
-        )
-    } else {
-        Verdict::Wrong(Refusal::WrongFrame { place })
+    if !ends_rightly(at, end, flags) {
+        return Err(Refusal::WrongFrame { place });
     }
+    if u64::from(byte_at(s, at)) != command {
+        return Err(Refusal::WrongCommand { place });
+    }
+    if u64::from(byte_at(s, at + INDEX_AT)) != index {
+        return Err(Refusal::WrongIndex { place });
+    }
+    if u64::from(flags % LENGTH_PAST) + (PDU_OVERHEAD_BYTES as u64) != size {
+        return Err(Refusal::WrongLength { place });
+    }
+    Ok(())
 }
 
-// A handle's size, index and command against the command, the index and the length of the PDU at this place.
-#[tactic(auto, unfolding(crate::specs::Matching::compared))]
-fn compare(size: u64, index: u64, command: u64, c: u8, i: u8, n: u16, place: u16) -> Verdict
-    ensures { result ≡ compared (record { start = 0; size = size; index = index; command = command }) c i n place }
-{
-    if c as u64 != command {
-        return Verdict::Wrong(Refusal::WrongCommand { place });
-    }
-    if i as u64 != index {
-        return Verdict::Wrong(Refusal::WrongIndex { place });
-    }
-    if (n as u64) + (PDU_OVERHEAD_BYTES as u64) != size {
-        return Verdict::Wrong(Refusal::WrongLength { place });
-    }
-    Verdict::Right
-}
-
-// What came back of the PDU whose header starts at `at`.
+// What came back of the PDU whose header starts at `at`. Not shared with the reader's `pdu_at`: that reads all nine fields of a PDU, and three are wanted here.
 #[tactic(auto, unfolding(pdu::specs::Read::seen_at))]
 fn came_back(s: &[u8], at: usize) -> ReceivedPdu
     requires { at < word_past }
@@ -173,32 +110,6 @@ fn came_back(s: &[u8], at: usize) -> ReceivedPdu
     ReceivedPdu {
         place: at + HEADER_BYTES,
         len: n,
-        counter: word_at(s, at + (HEADER_BYTES + (n as usize))),
-    }
-}
-
-// A list of no PDUs.
-#[tactic(auto, unfolding(crate::specs::Answers::padded, crate::specs::Answers::unused))]
-fn no_pdus() -> [ReceivedPdu; PDUS_MOST]
-    ensures { result ≡ padded [] }
-{
-    let none = ReceivedPdu {
-        place: 0,
-        len: 0,
-        counter: 0,
-    };
-    [none; PDUS_MOST]
-}
-
-// This refusal, and an empty list.
-#[tactic(auto, unfolding(crate::specs::Answers::told))]
-fn without(x: Refusal) -> Received
-    ensures { result ≡ told (refused x) }
-{
-    let pdus = no_pdus();
-    Received {
-        answer: ReceivedAnswer::No(x),
-        count: 0,
-        pdus,
+        counter: word_at(s, at + (HEADER_BYTES + usize::from(n))),
     }
 }

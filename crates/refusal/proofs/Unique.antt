@@ -7,7 +7,8 @@ use lib.ListN.{length, get_or}
 use lib.Dec.{eqb}
 use types.Run.{OneOf, miss}
 use denote.Enum.Declared.{tag_of}
-use Rattle.refusal.specs.Said.{Said, gives, refuses, number_of, values_of, pick}
+use Rattle.std.specs.Prelude.{Option, Some, None, Result, Ok, Err, ⊤}
+use Rattle.refusal.specs.Said.{Said, gives, absent, refuses, number_of, values_of, pick, said, said_if_any, number_value, no_values as nothing}
 use Rattle.refusal.specs.declared.Refusal.{Refusal}
 use Rattle.refusal.specs.declared.Refusal.TheVariants as r
 use Rattle.refusal.specs.contracts.Refusal.{the_type}
@@ -104,3 +105,40 @@ no_values x k = go (valued x) k
     go : {y : Refusal} → Valued y → OneOf others (tag_of the_type y) → values_of y ≡ []
     go (none v e) h = v
     go (some m e) h = absurd (m h)
+
+-- ---- an answer, from what it says, where what it gives is known from its values
+
+unfoldable answer_of : {T : Type 0} → (List ℕ → T) → Said → Result T Refusal
+answer_of from (gives l) = Ok (from l)
+answer_of from absent = Err r.Address
+answer_of from (refuses n l) = Err (refusal_of n l)
+
+unfoldable answer_if_any : {T : Type 0} → (List ℕ → T) → Said → Result (Option T) Refusal
+answer_if_any from (gives l) = Ok (Some (from l))
+answer_if_any from absent = Ok None
+answer_if_any from (refuses n l) = Err (refusal_of n l)
+
+module _ {T : Type 0} (values : T → List ℕ) (from : List ℕ → T) (known : (x : T) → from (values x) ≡ x) where
+  said_back : (a : Result T Refusal) → answer_of from (said values a) ≡ a
+  unfolding answer_of
+  said_back (Ok x) = ap Ok (known x)
+  said_back (Err x) = ap Err (back x)
+
+  pub said_unique : (a b : Result T Refusal) (s : Said) → said values a ≡ s → said values b ≡ s → a ≡ b
+  said_unique = unique (said values) (answer_of from) said_back
+
+  said_if_any_back : (a : Result (Option T) Refusal) → answer_if_any from (said_if_any values a) ≡ a
+  unfolding answer_if_any
+  said_if_any_back (Ok (Some x)) = ap (λ (y : T). Ok (Some y)) (known x)
+  said_if_any_back (Ok None) = refl
+  said_if_any_back (Err x) = ap Err (back x)
+
+  pub said_if_any_unique : (a b : Result (Option T) Refusal) (s : Said) → said_if_any values a ≡ s → said_if_any values b ≡ s → a ≡ b
+  said_if_any_unique = unique (said_if_any values) (answer_if_any from) said_if_any_back
+
+-- .. a number, and what is done with nothing to give
+pub number_unique : (a b : Result ℕ Refusal) (s : Said) → said number_value a ≡ s → said number_value b ≡ s → a ≡ b
+number_unique = said_unique number_value (λ (l : List ℕ). get_or l 0 0) (λ (n : ℕ). refl)
+
+pub done_unique : (a b : Result ⊤ Refusal) (s : Said) → said nothing a ≡ s → said nothing b ≡ s → a ≡ b
+done_unique = said_unique nothing (λ (l : List ℕ). tt) (λ (d : ⊤). refl)

@@ -1,6 +1,6 @@
 -- What a call says, on paper: values, that there is none, or a refusal by its number (RULES, refusals) with its values.
--- Every answer enum of the crates above has a map into Said, and the promises are equations of Said.
-use Rattle.std.specs.Prelude.{ℕ, List, [], ◌∷◌, ◌++◌, Bool, true, false, get_or, take}
+-- Every answer of the crates above is said by one of the maps below, and the promises are equations of Said.
+use Rattle.std.specs.Prelude.{ℕ, List, [], ◌∷◌, ◌++◌, Bool, true, false, get_or, take, Option, Some, None, Result, Ok, Err, ⊤}
 use Rattle.refusal.specs.declared.Refusal.{Refusal}
 use Rattle.refusal.specs.declared.Refusal.TheVariants as r
 
@@ -42,6 +42,24 @@ values_row x = take 2 (values_of x ++ (0 ∷ 0 ∷ []))
 
 abbrev pub said_of : Refusal → Said
 said_of x = refuses (number_of x) (values_of x)
+
+-- ---- what an answer says, where these are the values of what it gives
+abbrev pub said : {T : Type 0} → (T → List ℕ) → Result T Refusal → Said
+said values (Ok x) = gives (values x)
+said values (Err x) = said_of x
+
+-- .. of an answer that may be absent
+abbrev pub said_if_any : {T : Type 0} → (T → List ℕ) → Result (Option T) Refusal → Said
+said_if_any values (Ok (Some x)) = gives (values x)
+said_if_any values (Ok None) = absent
+said_if_any values (Err x) = said_of x
+
+-- a number gives itself; done gives no values
+abbrev pub number_value : ℕ → List ℕ
+number_value n = n ∷ []
+
+abbrev pub no_values : ⊤ → List ℕ
+no_values _ = []
 
 -- a if the test holds, else b
 abbrev pub pick {ℓ} : {A : Type ℓ} → Bool → A → A → A

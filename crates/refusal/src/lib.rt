@@ -5,7 +5,7 @@
 ghost use Rattle.std.specs.Prelude.{◌≡◌, [], ◌∷◌, length, take};
 ghost use Rattle.refusal.specs.Said.{number_of, values_of, values_row};
 
-#[derive(Clone, Copy)]
+#[derive(Debug, Clone, Copy, PartialEq, Eq)]
 pub enum Refusal {
     // 1: an address rule is broken.
     Address,
@@ -46,13 +46,14 @@ pub enum Refusal {
 }
 
 // The values of a refusal: the first `count` of the two, and the others are 0.
+// A count beside a row, since nothing here has a heap, and what `values` promises names both.
 #[derive(Clone, Copy)]
 pub struct ValueRow {
     pub count: usize,
     pub items: [u64; 2],
 }
 
-// The number by which a refusal is known (RULES, refusals).
+// The number by which a refusal is known (RULES, refusals). A function by its name and no `From`: it is a public call with a row in `pinned`.
 pub fn number(x: Refusal) -> u8
     ensures { result ≡ number_of x }
 {
@@ -60,7 +61,7 @@ pub fn number(x: Refusal) -> u8
         Refusal::Address => 1,
         Refusal::Overrun => 2,
         Refusal::NoCategory => 3,
-        Refusal::StringTooLong { room: _, stored: _ } => 4,
+        Refusal::StringTooLong { .. } => 4,
         Refusal::Decode => 5,
         Refusal::Capacity => 6,
         Refusal::NotWritable => 7,
@@ -71,10 +72,10 @@ pub fn number(x: Refusal) -> u8
         Refusal::BadFrame => 12,
         Refusal::NoRoom => 13,
         Refusal::BadArgument => 14,
-        Refusal::WrongFrame { place: _ } => 19,
-        Refusal::WrongCommand { place: _ } => 20,
-        Refusal::WrongIndex { place: _ } => 21,
-        Refusal::WrongLength { place: _ } => 22,
+        Refusal::WrongFrame { .. } => 19,
+        Refusal::WrongCommand { .. } => 20,
+        Refusal::WrongIndex { .. } => 21,
+        Refusal::WrongLength { .. } => 22,
     }
 }
 
@@ -86,13 +87,13 @@ pub fn values(x: Refusal) -> ValueRow
         Refusal::StringTooLong { room, stored } => {
             ValueRow {
                 count: 2,
-                items: [room as u64, stored as u64],
+                items: [u64::from(room), u64::from(stored)],
             }
         }
-        Refusal::WrongFrame { place } => one(place),
-        Refusal::WrongCommand { place } => one(place),
-        Refusal::WrongIndex { place } => one(place),
-        Refusal::WrongLength { place } => one(place),
+        Refusal::WrongFrame { place }
+        | Refusal::WrongCommand { place }
+        | Refusal::WrongIndex { place }
+        | Refusal::WrongLength { place } => one(place),
         _ => {
             ValueRow {
                 count: 0,
@@ -107,6 +108,6 @@ fn one(v: u16) -> ValueRow
 {
     ValueRow {
         count: 1,
-        items: [v as u64, 0],
+        items: [u64::from(v), 0],
     }
 }

@@ -9,7 +9,7 @@ ghost use Rattle.setup.specs.Setup.{pdi_of, pdi_values, pdi_said, bootstrap_of, 
 ghost use Rattle.setup.specs.Answers.{said_pdi, said_bootstrap, said_version, said_checksum};
 
 use crc::crc;
-use eeprom::{Chunk, byte_of, image_within, word_of};
+use eeprom::{Chunk, byte_of, checked, word_of};
 use refusal::Refusal;
 use sii::layout::CHECKSUM;
 
@@ -42,12 +42,6 @@ pub struct PdiControl {
     pub pdi_configuration2: u16,
 }
 
-#[derive(Clone, Copy)]
-pub enum PdiAnswer {
-    Is(PdiControl),
-    No(Refusal),
-}
-
 // The mailbox of the state Bootstrap: where the SubDevice receives and sends.
 #[derive(Clone, Copy)]
 pub struct BootstrapMailbox {
@@ -57,19 +51,6 @@ pub struct BootstrapMailbox {
     pub subdevice_send_size: u16,
 }
 
-#[derive(Clone, Copy)]
-pub enum BootstrapAnswer {
-    Is(BootstrapMailbox),
-    No(Refusal),
-}
-
-// The version of the SII.
-#[derive(Clone, Copy)]
-pub enum VersionAnswer {
-    Version(u16),
-    No(Refusal),
-}
-
 // The checksum that is stored, and the one that the bytes before it have. They are equal where the stored one is right.
 #[derive(Clone, Copy)]
 pub struct Checksums {
@@ -77,23 +58,18 @@ pub struct Checksums {
     pub computed: u8,
 }
 
-#[derive(Clone, Copy)]
-pub enum ChecksumAnswer {
-    Is(Checksums),
-    No(Refusal),
-}
+// ---- an image that is too long is refused with 14, and nothing else is
 
 // The PDI's control and configuration.
-pub fn pdi_control(image: &[u8], chunk: Chunk) -> PdiAnswer
+#[tactic(auto, unfolding(sii::specs::Fixed::lent, crate::specs::Setup::pdi_said))]
+pub fn pdi_control(image: &[u8], chunk: Chunk) -> Result<PdiControl, Refusal>
     ensures { said_pdi result ≡ pdi_said image.now }
 {
-    if image_within(image) {
-        PdiAnswer::Is(pdi_in(image, chunk))
-    } else {
-        PdiAnswer::No(Refusal::BadArgument)
-    }
+    checked(image)?;
+    Ok(pdi_in(image, chunk))
 }
 
+#[tactic(auto, unfolding(crate::specs::Setup::pdi_of))]
 fn pdi_in(image: &[u8], chunk: Chunk) -> PdiControl
     ensures { result ≡ pdi_of image.now }
 {
@@ -106,16 +82,15 @@ fn pdi_in(image: &[u8], chunk: Chunk) -> PdiControl
 }
 
 // The bootstrap mailbox.
-pub fn bootstrap_mailbox(image: &[u8], chunk: Chunk) -> BootstrapAnswer
+#[tactic(auto, unfolding(sii::specs::Fixed::lent, crate::specs::Setup::bootstrap_said))]
+pub fn bootstrap_mailbox(image: &[u8], chunk: Chunk) -> Result<BootstrapMailbox, Refusal>
     ensures { said_bootstrap result ≡ bootstrap_said image.now }
 {
-    if image_within(image) {
-        BootstrapAnswer::Is(bootstrap_in(image, chunk))
-    } else {
-        BootstrapAnswer::No(Refusal::BadArgument)
-    }
+    checked(image)?;
+    Ok(bootstrap_in(image, chunk))
 }
 
+#[tactic(auto, unfolding(crate::specs::Setup::bootstrap_of))]
 fn bootstrap_in(image: &[u8], chunk: Chunk) -> BootstrapMailbox
     ensures { result ≡ bootstrap_of image.now }
 {
@@ -128,59 +103,49 @@ fn bootstrap_in(image: &[u8], chunk: Chunk) -> BootstrapMailbox
 }
 
 // The version of the SII.
-pub fn version(image: &[u8], chunk: Chunk) -> VersionAnswer
+#[tactic(auto, unfolding(sii::specs::Fixed::lent, crate::specs::Setup::version_said))]
+pub fn version(image: &[u8], chunk: Chunk) -> Result<u16, Refusal>
     ensures { said_version result ≡ version_said image.now }
 {
-    if image_within(image) {
-        VersionAnswer::Version(word_of(image, chunk, SII_VERSION))
-    } else {
-        VersionAnswer::No(Refusal::BadArgument)
-    }
+    checked(image)?;
+    Ok(word_of(image, chunk, SII_VERSION))
 }
 
 // The stored checksum, and that of the words before it.
-pub fn checksum(image: &[u8], chunk: Chunk) -> ChecksumAnswer
+#[tactic(auto, unfolding(sii::specs::Fixed::lent, crate::specs::Setup::checksum_said))]
+pub fn checksum(image: &[u8], chunk: Chunk) -> Result<Checksums, Refusal>
     ensures { said_checksum result ≡ checksum_said image.now }
 {
-    if image_within(image) {
-        let stored = byte_of(image, chunk, CHECKSUM as u32);
-        let computed = sum(image, chunk);
-        ChecksumAnswer::Is(Checksums { stored, computed })
-    } else {
-        ChecksumAnswer::No(Refusal::BadArgument)
-    }
-}
-
-fn sum(image: &[u8], chunk: Chunk) -> u8
-    ensures { result ≡ crc_of (summed image.now) }
-{
-    let bytes = bytes_summed(image, chunk);
-    crc(&bytes)
+    checked(image)?;
+    Ok(Checksums {
+        stored: byte_of(image, chunk, CHECKSUM as u32),
+        computed: crc(&bytes_summed(image, chunk)),
+    })
 }
 
 // The bytes that the checksum goes over.
-fn bytes_summed(image: &[u8], chunk: Chunk) -> [u8; 14]
+#[tactic(auto, using(wire::proofs::Laws::filled_none))]
+fn bytes_summed(image: &[u8], chunk: Chunk) -> [u8; CHECKSUM]
     ensures { result ≡ summed image.now }
 {
-    let mut bytes = [0; 14];
-    let mut i = 0;
-    while i < CHECKSUM {
+    let mut bytes = [0; CHECKSUM];
+    // No `array::from_fn`: tried, and not proved. The law of such arrays (`Made`) is in `ports`, on which this crate does not rest.
+    for i in 0..CHECKSUM {
         bytes[i] = byte_of(image, chunk, i as u32);
-        i += 1;
     }
     bytes
 }
 
-// ---- each record as the numbers that an answer gives, in their order
+// ---- each record as the numbers that an answer gives, in their order: functions by their names and no `From`, since each is a public call with a row in `pinned`
 
 pub fn pdi_row(p: PdiControl) -> [u64; 4]
     ensures { result ≡ pdi_values p }
 {
     [
-        p.pdi_control as u64,
-        p.pdi_configuration as u64,
-        p.sync_impulse_length as u64,
-        p.pdi_configuration2 as u64,
+        u64::from(p.pdi_control),
+        u64::from(p.pdi_configuration),
+        u64::from(p.sync_impulse_length),
+        u64::from(p.pdi_configuration2),
     ]
 }
 
@@ -188,15 +153,15 @@ pub fn bootstrap_row(m: BootstrapMailbox) -> [u64; 4]
     ensures { result ≡ bootstrap_values m }
 {
     [
-        m.subdevice_receive_offset as u64,
-        m.subdevice_receive_size as u64,
-        m.subdevice_send_offset as u64,
-        m.subdevice_send_size as u64,
+        u64::from(m.subdevice_receive_offset),
+        u64::from(m.subdevice_receive_size),
+        u64::from(m.subdevice_send_offset),
+        u64::from(m.subdevice_send_size),
     ]
 }
 
 pub fn checksum_row(c: Checksums) -> [u64; 2]
     ensures { result ≡ checksum_values c }
 {
-    [c.stored as u64, c.computed as u64]
+    [u64::from(c.stored), u64::from(c.computed)]
 }

@@ -57,10 +57,7 @@ general_of image p = record {
   eoe_enabled = ltb 0 (field image p eoe_details);
   flags = field image p general_flags;
   ebus_current = field image p current_on_e_bus;
-  port0 = (ports_of (field image p ports_of_types)).port0;
-  port1 = (ports_of (field image p ports_of_types)).port1;
-  port2 = (ports_of (field image p ports_of_types)).port2;
-  port3 = (ports_of (field image p ports_of_types)).port3;
+  ports = ports_of (field image p ports_of_types);
   physical_memory_addr = field image p address_of_types;
 }
 
@@ -72,7 +69,7 @@ abbrev pub general_values : SiiGeneral → List ℕ
 general_values g =
     g.group_string_idx ∷ g.image_string_idx ∷ g.order_string_idx ∷ g.name_string_idx ∷ g.coe_details
     ∷ bit g.foe_enabled ∷ bit g.eoe_enabled ∷ g.flags ∷ g.ebus_current
-    ∷ g.port0 ∷ g.port1 ∷ g.port2 ∷ g.port3 ∷ g.physical_memory_addr ∷ []
+    ∷ g.ports.port0 ∷ g.ports.port1 ∷ g.ports.port2 ∷ g.ports.port3 ∷ g.physical_memory_addr ∷ []
 
 -- of a category from p to end: its bytes are read exactly (2), then decoded (5)
 unfoldable pub general_in : List ℕ → ℕ → ℕ → Said

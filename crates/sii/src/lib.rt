@@ -19,32 +19,11 @@ use crate::layout::{
     PROTOCOLS_BELOW, RECEIVE_MAILBOX_OFFSET, RECEIVE_MAILBOX_SIZE, REVISION_NUMBER,
     SEND_MAILBOX_OFFSET, SEND_MAILBOX_SIZE, SERIAL_NUMBER, UNIT_BYTES, VENDOR_ID, WORD_BYTES,
 };
-use category::{Found, GENERAL, category};
+use category::{GENERAL, category};
 use crc::crc;
-use eeprom::{Chunk, byte_of, image_within, long_of, word_of};
+use eeprom::{Chunk, Range, byte_of, checked, long_of, word_of};
 use refusal::Refusal;
-use wire::{flag, lay};
-
-// The configured station alias.
-#[derive(Clone, Copy)]
-pub enum AliasAnswer {
-    Alias(u16),
-    No(Refusal),
-}
-
-// Whether the alias was set.
-#[derive(Clone, Copy)]
-pub enum AliasSet {
-    Done,
-    No(Refusal),
-}
-
-// The size of the EEPROM in bytes.
-#[derive(Clone, Copy)]
-pub enum SizeAnswer {
-    Bytes(u32),
-    No(Refusal),
-}
+use wire::lay;
 
 #[derive(Clone, Copy)]
 pub struct SubDeviceIdentity {
@@ -52,12 +31,6 @@ pub struct SubDeviceIdentity {
     pub product_id: u32,
     pub revision: u32,
     pub serial: u32,
-}
-
-#[derive(Clone, Copy)]
-pub enum IdentityAnswer {
-    Is(SubDeviceIdentity),
-    No(Refusal),
 }
 
 // The standard mailbox: where the SubDevice receives and sends, and the protocols that it knows, a bit each.
@@ -68,12 +41,6 @@ pub struct DefaultMailbox {
     pub subdevice_send_offset: u16,
     pub subdevice_send_size: u16,
     pub supported_protocols: u8,
-}
-
-#[derive(Clone, Copy)]
-pub enum MailboxAnswer {
-    Is(DefaultMailbox),
-    No(Refusal),
 }
 
 // The category General.
@@ -89,14 +56,12 @@ pub struct SiiGeneral {
     pub flags: u8,
     // The 16 bits of a signed number of mA.
     pub ebus_current: u16,
-    pub port0: u8,
-    pub port1: u8,
-    pub port2: u8,
-    pub port3: u8,
+    pub ports: PhysicalPorts,
     pub physical_memory_addr: u16,
 }
 
 // The kinds of the ports: not used (0), MII, reserved, EBus, fast hot connect.
+// They stay numbers: `ports_row` and `general_row` take any, and an enum would ask more of their callers.
 #[derive(Clone, Copy)]
 pub struct PhysicalPorts {
     pub port0: u8,
@@ -105,93 +70,61 @@ pub struct PhysicalPorts {
     pub port3: u8,
 }
 
-#[derive(Clone, Copy)]
-pub enum PortsAnswer {
-    Is(PhysicalPorts),
-    No(Refusal),
-}
-
-// A field of General of 16 bits.
-#[derive(Clone, Copy)]
-pub enum WordAnswer {
-    Word(u16),
-    No(Refusal),
-}
-
-// General, where it is found.
-#[derive(Clone, Copy)]
-pub enum GeneralFound {
-    Is(SiiGeneral),
-    Absent,
-    No(Refusal),
-}
-
-// General, where it is needed.
-#[derive(Clone, Copy)]
-pub enum GeneralAnswer {
-    Is(SiiGeneral),
-    No(Refusal),
-}
-
-// ---- the fixed area
+// ---- the fixed area: an image that is too long is refused with 14, before all else
 
 // The configured station alias.
-pub fn station_alias(image: &[u8], chunk: Chunk) -> AliasAnswer
+#[tactic(auto, unfolding(crate::specs::Fixed::lent, crate::specs::Fixed::alias_said))]
+pub fn station_alias(image: &[u8], chunk: Chunk) -> Result<u16, Refusal>
     ensures { said_alias result ≡ alias_said image.now }
 {
-    if image_within(image) {
-        AliasAnswer::Alias(word_of(image, chunk, CONFIGURED_STATION_ALIAS))
-    } else {
-        AliasAnswer::No(Refusal::BadArgument)
-    }
+    checked(image)?;
+    Ok(word_of(image, chunk, CONFIGURED_STATION_ALIAS))
 }
 
-// Sets the configured station alias and the checksum; a refusal changes nothing.
+// Sets the configured station alias and the checksum. An image with no room for them is refused with 7; a refusal changes nothing.
 #[tactic(auto, unfolding(crate::specs::Fixed::lent, crate::specs::Fixed::set_said, crate::specs::Fixed::set_image))]
-pub fn set_station_alias(image: &mut [u8], alias: u16) -> AliasSet
+pub fn set_station_alias(image: &mut [u8], alias: u16) -> Result<(), Refusal>
     ensures said { said_set result ≡ set_said image.old }
     ensures lent { image.new ≡ set_image image.old alias }
 {
-    if image_within(image) {
-        if CHECKSUM_END <= image.len() {
-            put_alias(image, alias);
-            put_checksum(image);
-            AliasSet::Done
-        } else {
-            AliasSet::No(Refusal::NotWritable)
-        }
-    } else {
-        AliasSet::No(Refusal::BadArgument)
+    checked(image)?;
+    if image.len() < CHECKSUM_END {
+        return Err(Refusal::NotWritable);
     }
+    put_alias(image, alias);
+    put_checksum(image);
+    Ok(())
 }
 
 fn put_alias(image: &mut [u8], alias: u16)
     requires { checksum_end ≤ length image.old }
     ensures { image.new ≡ with_alias image.old alias }
 {
-    let bytes = [(alias % 256) as u8, (alias / 256 % 256) as u8];
-    lay(image, CONFIGURED_STATION_ALIAS as usize, &bytes);
+    lay(
+        image,
+        CONFIGURED_STATION_ALIAS as usize,
+        &alias.to_le_bytes(),
+    );
 }
 
 fn put_checksum(image: &mut [u8])
     requires { checksum_end ≤ length image.old }
     ensures { image.new ≡ with_checksum image.old }
 {
-    let bytes = [crc(&image[0..CHECKSUM]), 0];
+    let bytes = [crc(&image[..CHECKSUM]), 0];
     lay(image, CHECKSUM, &bytes);
 }
 
 // Vendor, product, revision and serial number.
-pub fn identity(image: &[u8], chunk: Chunk) -> IdentityAnswer
+#[tactic(auto, unfolding(crate::specs::Fixed::lent, crate::specs::Fixed::identity_said))]
+pub fn identity(image: &[u8], chunk: Chunk) -> Result<SubDeviceIdentity, Refusal>
     ensures { said_identity result ≡ identity_said image.now }
 {
-    if image_within(image) {
-        IdentityAnswer::Is(identity_in(image, chunk))
-    } else {
-        IdentityAnswer::No(Refusal::BadArgument)
-    }
+    checked(image)?;
+    Ok(identity_in(image, chunk))
 }
 
+#[tactic(auto, unfolding(crate::specs::Fixed::identity_of))]
 fn identity_in(image: &[u8], chunk: Chunk) -> SubDeviceIdentity
     ensures { result ≡ identity_of image.now }
 {
@@ -203,23 +136,21 @@ fn identity_in(image: &[u8], chunk: Chunk) -> SubDeviceIdentity
     }
 }
 
-// The standard mailbox.
+// The standard mailbox; an undefined bit of its protocols is refused with 5.
 #[tactic(auto, unfolding(crate::specs::Fixed::lent, crate::specs::Fixed::mailbox_said))]
-pub fn mailbox_config(image: &[u8], chunk: Chunk) -> MailboxAnswer
+pub fn mailbox_config(image: &[u8], chunk: Chunk) -> Result<DefaultMailbox, Refusal>
     ensures { said_mailbox result ≡ mailbox_said image.now }
 {
-    if image_within(image) {
-        let mailbox = mailbox_in(image, chunk);
-        if mailbox.supported_protocols < PROTOCOLS_BELOW {
-            MailboxAnswer::Is(mailbox)
-        } else {
-            MailboxAnswer::No(Refusal::Decode)
-        }
+    checked(image)?;
+    let mailbox = mailbox_in(image, chunk);
+    if mailbox.supported_protocols < PROTOCOLS_BELOW {
+        Ok(mailbox)
     } else {
-        MailboxAnswer::No(Refusal::BadArgument)
+        Err(Refusal::Decode)
     }
 }
 
+#[tactic(auto, unfolding(crate::specs::Fixed::mailbox_of))]
 fn mailbox_in(image: &[u8], chunk: Chunk) -> DefaultMailbox
     ensures { result ≡ mailbox_of image.now }
 {
@@ -233,96 +164,83 @@ fn mailbox_in(image: &[u8], chunk: Chunk) -> DefaultMailbox
 }
 
 // Whether there is a mailbox, as the Rust tells it: one side's size is enough where it is the sending one.
+#[tactic(auto, unfolding(crate::specs::Fixed::has_mailbox))]
 pub fn has_mailbox(m: DefaultMailbox) -> bool
     ensures { result ≡ has_mailbox m }
 {
-    if 0 < m.subdevice_send_size {
-        true
-    } else if 0 < m.supported_protocols {
-        0 < m.subdevice_receive_size
-    } else {
-        false
-    }
+    0 < m.subdevice_send_size || (0 < m.supported_protocols && 0 < m.subdevice_receive_size)
 }
 
 // The size of the EEPROM in bytes, in full.
-pub fn size(image: &[u8], chunk: Chunk) -> SizeAnswer
+#[tactic(auto, unfolding(crate::specs::Fixed::lent, crate::specs::Fixed::size_said))]
+pub fn size(image: &[u8], chunk: Chunk) -> Result<u32, Refusal>
     ensures { said_size result ≡ size_said image.now }
 {
-    if image_within(image) {
-        let units = word_of(image, chunk, MEMORY_SIZE);
-        SizeAnswer::Bytes(((units as u32) + 1) * UNIT_BYTES)
-    } else {
-        SizeAnswer::No(Refusal::BadArgument)
-    }
+    checked(image)?;
+    let units = word_of(image, chunk, MEMORY_SIZE);
+    Ok((u32::from(units) + 1) * UNIT_BYTES)
 }
 
 // ---- General
 
 // General; not found is refusal 3.
-pub fn general(image: &[u8], chunk: Chunk) -> GeneralAnswer
+#[tactic(auto, unfolding(crate::specs::General::general_said, crate::specs::General::needed))]
+pub fn general(image: &[u8], chunk: Chunk) -> Result<SiiGeneral, Refusal>
     ensures { said_general result ≡ general_said image.now }
 {
-    match find_general(image, chunk) {
-        GeneralFound::Is(g) => GeneralAnswer::Is(g),
-        GeneralFound::Absent => GeneralAnswer::No(Refusal::NoCategory),
-        GeneralFound::No(x) => GeneralAnswer::No(x),
-    }
+    find_general(image, chunk)?.ok_or(Refusal::NoCategory)
 }
 
-// General; not found is absent.
-pub fn find_general(image: &[u8], chunk: Chunk) -> GeneralFound
+// General; not found is absent. Refuses what `category` refuses, a category too short for it with 2, and an undefined bit with 5.
+#[tactic(auto, using(category::proofs::First::found_within), unfolding(crate::specs::General::general_found, refusal::specs::Said::on2))]
+pub fn find_general(image: &[u8], chunk: Chunk) -> Result<Option<SiiGeneral>, Refusal>
     ensures { said_found result ≡ general_found image.now }
 {
-    match category(image, chunk, GENERAL) {
-        Found::At(g) => general_in(image, chunk, g.byte_pos, g.end),
-        Found::Absent => GeneralFound::Absent,
-        Found::No(x) => GeneralFound::No(x),
+    match category(image, chunk, GENERAL)? {
+        Some(g) => Ok(Some(general_in(image, chunk, g)?)),
+        None => Ok(None),
     }
 }
 
-// General of a category from at to end.
-fn general_in(image: &[u8], chunk: Chunk, at: u32, end: u32) -> GeneralFound
-    requires { at ≤ place_most }
-    ensures { said_found result ≡ general_in image.now at end }
+// General of the category that was found.
+#[tactic(auto, unfolding(crate::specs::General::general_in))]
+fn general_in(image: &[u8], chunk: Chunk, g: Range) -> Result<SiiGeneral, Refusal>
+    requires { g.byte_pos ≤ place_most }
+    ensures { said_general result ≡ general_in image.now g.byte_pos g.end }
 {
-    if at + GENERAL_BYTES <= end {
-        let general = general_at(image, chunk, at);
-        if admitted(general) {
-            GeneralFound::Is(general)
-        } else {
-            GeneralFound::No(Refusal::Decode)
-        }
+    if g.end < g.byte_pos + GENERAL_BYTES {
+        return Err(Refusal::Overrun);
+    }
+    let general = general_at(image, chunk, g.byte_pos);
+    if admitted(general) {
+        Ok(general)
     } else {
-        GeneralFound::No(Refusal::Overrun)
+        Err(Refusal::Decode)
     }
 }
 
 // No undefined bit stands in the CoE details, nor in the flags.
+#[tactic(auto, unfolding(crate::specs::General::general_admits))]
 fn admitted(general: SiiGeneral) -> bool
     ensures { result ≡ general_admits general }
 {
-    if general.coe_details < COE_BELOW {
-        general.flags < FLAGS_BELOW
-    } else {
-        false
-    }
+    general.coe_details < COE_BELOW && general.flags < FLAGS_BELOW
 }
 
+#[tactic(auto, unfolding(crate::specs::General::listed))]
 fn port_status(n: u16) -> u8
-    requires { n ≤ 255 }
     ensures { result ≡ listed port_status_last n }
 {
     if n <= PORT_STATUS_LAST { n as u8 } else { 0 }
 }
 
+#[tactic(auto, unfolding(crate::specs::General::general_of))]
 fn general_at(image: &[u8], chunk: Chunk, at: u32) -> SiiGeneral
     requires { at ≤ place_most }
     ensures { result ≡ general_of image.now at }
 {
     let foe = byte_of(image, chunk, at + FOE_DETAILS);
     let eoe = byte_of(image, chunk, at + EOE_DETAILS);
-    let ports = port_kinds(word_of(image, chunk, at + PORTS_OF_TYPES));
     SiiGeneral {
         group_string_idx: byte_of(image, chunk, at + GROUP_IDX),
         image_string_idx: byte_of(image, chunk, at + IMG_IDX),
@@ -333,55 +251,50 @@ fn general_at(image: &[u8], chunk: Chunk, at: u32) -> SiiGeneral
         eoe_enabled: 0 < eoe,
         flags: byte_of(image, chunk, at + GENERAL_FLAGS),
         ebus_current: word_of(image, chunk, at + CURRENT_ON_EBUS),
-        port0: ports.port0,
-        port1: ports.port1,
-        port2: ports.port2,
-        port3: ports.port3,
+        ports: port_kinds(word_of(image, chunk, at + PORTS_OF_TYPES)),
         physical_memory_addr: word_of(image, chunk, at + ADDRESS_OF_TYPES),
     }
 }
 
-// ---- General's ports and physical memory address by ETG2010's places
+// ---- General's ports and physical memory address by ETG2010's places: a category that ends before them is refused with 2
 
 // The kinds of the ports; General not found is refusal 3.
-pub fn physical_ports(image: &[u8], chunk: Chunk) -> PortsAnswer
+#[tactic(auto, unfolding(crate::specs::General::ports_said, crate::specs::General::kinds_of))]
+pub fn physical_ports(image: &[u8], chunk: Chunk) -> Result<PhysicalPorts, Refusal>
     ensures { said_ports result ≡ ports_said image.now }
 {
-    match general_word(image, chunk, PHYSICAL_PORT) {
-        WordAnswer::Word(n) => PortsAnswer::Is(port_kinds(n)),
-        WordAnswer::No(x) => PortsAnswer::No(x),
-    }
+    Ok(port_kinds(general_word(image, chunk, PHYSICAL_PORT)?))
 }
 
 // The address of the ESC's memory where the device's identification stands; General not found is refusal 3.
-pub fn physical_memory_address(image: &[u8], chunk: Chunk) -> WordAnswer
+#[tactic(auto, unfolding(crate::specs::General::address_said))]
+pub fn physical_memory_address(image: &[u8], chunk: Chunk) -> Result<u16, Refusal>
     ensures { said_word result ≡ address_said image.now }
 {
     general_word(image, chunk, PHYSICAL_MEMORY_ADDRESS)
 }
 
 // The number of 16 bits that stands k bytes behind General's first.
-fn general_word(image: &[u8], chunk: Chunk, k: u32) -> WordAnswer
+#[tactic(auto, using(category::proofs::First::found_within), unfolding(crate::specs::General::general_word, crate::specs::General::needed, refusal::specs::Said::on2))]
+fn general_word(image: &[u8], chunk: Chunk, k: u32) -> Result<u16, Refusal>
     requires { k ≤ place_most }
     ensures { said_word result ≡ general_word image.now (word k) }
 {
-    match category(image, chunk, GENERAL) {
-        Found::At(g) => word_in(image, chunk, g.byte_pos, g.end, k),
-        Found::Absent => WordAnswer::No(Refusal::NoCategory),
-        Found::No(x) => WordAnswer::No(x),
-    }
+    let g = category(image, chunk, GENERAL)?.ok_or(Refusal::NoCategory)?;
+    word_in(image, chunk, g, k)
 }
 
-// .. of a category from at to end.
-fn word_in(image: &[u8], chunk: Chunk, at: u32, end: u32, k: u32) -> WordAnswer
-    requires { (at ≤ place_most) × (k ≤ place_most) }
-    ensures { said_word result ≡ word_in image.now (word k) at end }
+// .. of the category that was found.
+#[tactic(auto, unfolding(crate::specs::General::word_in))]
+fn word_in(image: &[u8], chunk: Chunk, g: Range, k: u32) -> Result<u16, Refusal>
+    requires { (g.byte_pos ≤ place_most) × (k ≤ place_most) }
+    ensures { said_word result ≡ word_in image.now (word k) g.byte_pos g.end }
 {
-    let place = at + k;
-    if place + WORD_BYTES <= end {
-        WordAnswer::Word(word_of(image, chunk, place))
+    let place = g.byte_pos + k;
+    if place + WORD_BYTES <= g.end {
+        Ok(word_of(image, chunk, place))
     } else {
-        WordAnswer::No(Refusal::Overrun)
+        Err(Refusal::Overrun)
     }
 }
 
@@ -397,16 +310,16 @@ fn port_kinds(word: u16) -> PhysicalPorts
     }
 }
 
-// ---- each record as the numbers that an answer gives, in their order
+// ---- each record as the numbers that an answer gives, in their order: functions by their names and no `From`, since each is a public call with a row in `pinned`
 
 pub fn identity_row(d: SubDeviceIdentity) -> [u64; 4]
     ensures { result ≡ identity_values d }
 {
     [
-        d.vendor_id as u64,
-        d.product_id as u64,
-        d.revision as u64,
-        d.serial as u64,
+        u64::from(d.vendor_id),
+        u64::from(d.product_id),
+        u64::from(d.revision),
+        u64::from(d.serial),
     ]
 }
 
@@ -414,11 +327,11 @@ pub fn mailbox_row(m: DefaultMailbox) -> [u64; 5]
     ensures { result ≡ mailbox_values m }
 {
     [
-        m.subdevice_receive_offset as u64,
-        m.subdevice_receive_size as u64,
-        m.subdevice_send_offset as u64,
-        m.subdevice_send_size as u64,
-        m.supported_protocols as u64,
+        u64::from(m.subdevice_receive_offset),
+        u64::from(m.subdevice_receive_size),
+        u64::from(m.subdevice_send_offset),
+        u64::from(m.subdevice_send_size),
+        u64::from(m.supported_protocols),
     ]
 }
 
@@ -426,10 +339,10 @@ pub fn ports_row(p: PhysicalPorts) -> [u64; 4]
     ensures { result ≡ port_values p }
 {
     [
-        p.port0 as u64,
-        p.port1 as u64,
-        p.port2 as u64,
-        p.port3 as u64,
+        u64::from(p.port0),
+        u64::from(p.port1),
+        u64::from(p.port2),
+        u64::from(p.port3),
     ]
 }
 
@@ -437,31 +350,19 @@ pub fn general_row(g: SiiGeneral) -> [u64; 14]
     ensures { result ≡ general_values g }
 {
     [
-        wide8(g.group_string_idx),
-        wide8(g.image_string_idx),
-        wide8(g.order_string_idx),
-        wide8(g.name_string_idx),
-        wide8(g.coe_details),
-        flag(g.foe_enabled),
-        flag(g.eoe_enabled),
-        wide8(g.flags),
-        wide16(g.ebus_current),
-        wide8(g.port0),
-        wide8(g.port1),
-        wide8(g.port2),
-        wide8(g.port3),
-        wide16(g.physical_memory_addr),
+        u64::from(g.group_string_idx),
+        u64::from(g.image_string_idx),
+        u64::from(g.order_string_idx),
+        u64::from(g.name_string_idx),
+        u64::from(g.coe_details),
+        u64::from(g.foe_enabled),
+        u64::from(g.eoe_enabled),
+        u64::from(g.flags),
+        u64::from(g.ebus_current),
+        u64::from(g.ports.port0),
+        u64::from(g.ports.port1),
+        u64::from(g.ports.port2),
+        u64::from(g.ports.port3),
+        u64::from(g.physical_memory_addr),
     ]
-}
-
-fn wide8(x: u8) -> u64
-    ensures { result ≡ x }
-{
-    x as u64
-}
-
-fn wide16(x: u16) -> u64
-    ensures { result ≡ x }
-{
-    x as u64
 }

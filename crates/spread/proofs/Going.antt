@@ -1,29 +1,34 @@
 -- The loop over the areas: what is done and what the rest of the run gives are the whole run.
+use Rattle.std.specs.Prelude.{Ok, Option}
 use mathlib.Core.Path.{◌≡◌, ◌∙◌, sym, refl, ap}
-use mathlib.Core.Bool.{true}
+use mathlib.Core.Bool.{Bool, true, false}
 use mathlib.Core.List.{List, [], ◌∷◌, ◌++◌, append_assoc, append-nil}
 use Prim.Native.Nat.{ℕ, zero, suc, ◌+◌, ◌*◌, ◌-◌, ◌≤◌, ◌<◌}
-use native.Mathlib.Nat.{sub-zero, suc-mul, mul-le-mul_right, zero-mul, zero-add}
+use native.Mathlib.Nat.{sub-zero, suc-mul, mul-le-mul_right, zero-mul, add-sub_cancel_left}
+use borrow.Rule.Slice.PartMut.{put_mid}
+use Rattle.spread.proofs.Parts.{part_is, part_length}
 use native.Mathlib.Numerals.{add-one}
 use native.Mathlib.Omega.{arith}
-use borrow.Author.Tests.{eq-eqb, ne_eqb}
+use borrow.Author.Tests.{eq-eqb, ne_eqb, eqb-true}
+use lib.Dec.{eqb}
+use Rattle.refusal.specs.Said.{pick}
 use lib.ListN.{length, take, drop, set, replicate, length-drop, length-set, take-append-drop}
-use lib.Seq.{drop-drop, take-suc-set, drop-set-lt, append_snoc, length-take-le}
+use lib.Seq.{drop-drop, take-suc-set, drop-set-lt, append_snoc, length-take-le, take_all}
 use Rattle.wire.specs.Bytes.{overlay}
-use Rattle.wire.proofs.Laws.{length-overlay}
-use Rattle.wire.proofs.Overlay.{take-overlay, drop-overlay, middle_overlay, overlay_again}
+use Rattle.wire.proofs.Laws.{length-overlay, overlay_part}
+use Rattle.wire.proofs.Overlay.{take-overlay, drop-overlay}
 use Rattle.created_frame.specs.declared.Builder.{Builder}
-use Rattle.created_frame.specs.declared.RestPush.{RestPush}
+use Rattle.created_frame.specs.declared.PduResponseHandle.{PduResponseHandle}
+use Rattle.created_frame.specs.declared.Push.{Push}
 use Rattle.created_frame.specs.Answers.{said_rest}
 use Rattle.created_frame.specs.Frame.{sound, fresh, taken, rest_pushed, rest_builder, rest_next, after_rest}
 use Rattle.created_frame.proofs.States.{opened-sound}
 use Rattle.created_frame.proofs.Whole.{length-after_rest}
 use Rattle.cuts.proofs.Laws.{row-cap}
 use Rattle.cuts.specs.Measure.{cap}
-use Rattle.spread.specs.declared.SpreadAnswer.TheVariants.{Last}
 use Rattle.spread.specs.declared.Spreading.{Spreading}
 use Rattle.spread.specs.Answers.{first_of}
-use Rattle.spread.specs.Row.{zeroed, Run, stopped, row_from, room_in, padded, Fillable}
+use Rattle.spread.specs.Row.{zeroed, Run, stopped, row_from, room_in, padded, begun_state, begun_area, Fillable}
 use Rattle.spread.proofs.Push.{zeroed-length, push_takes}
 use Rattle.spread.proofs.Laws.{padded-none}
 
@@ -50,10 +55,10 @@ room-some zero size used h = h
 room-some (suc n) size used h = omega arith
 
 -- added up
-pub room-sum : (n size used x later : ℕ) → 1 ≤ n → x ≡ size - used - 12 → later ≡ size - 12 → x + (n - 1) * later ≡ room_in n size used
+pub room_sum : (n size used x later : ℕ) → 1 ≤ n → x ≡ size - used - 12 → later ≡ size - 12 → x + (n - 1) * later ≡ room_in n size used
 unfolding room_from
-room-sum zero size used x later h e f = absurd (omega arith)
-room-sum (suc n) size used x later h e f =
+room_sum zero size used x later h e f = absurd (omega arith)
+room_sum (suc n) size used x later h e f =
     let k : suc n - 1 ≡ n = omega arith in
     rw (k, e, f) (sym (room_from_lem (suc n) size used))
 
@@ -62,17 +67,6 @@ pub area_in : (k count size all : ℕ) → k < count → count * size ≡ all �
 area_in k count size all h g =
     let e : k * size + size ≡ suc k * size = sym (suc-mul k size) in
     let l : suc k * size ≤ count * size = mul-le-mul_right size h in
-    omega arith
-
--- a row fits a machine word many times, and so does what its later areas have room for
-pub row_small : (count size all : ℕ) → count * size ≡ all → count ≤ 32 → size ≤ 2047 → all ≤ 65504
-row_small count size all e h k =
-    let l : count * size ≤ 32 * size = mul-le-mul_right size h in
-    omega arith
-
-pub later_small : (count size later : ℕ) → count ≤ 32 → later ≡ size - 12 → size ≤ 2047 → (count - 1) * later ≤ 65504
-later_small count size later h e k =
-    let l : (count - 1) * later ≤ 32 * later = mul-le-mul_right later (let m : count - 1 ≤ 32 = omega arith in m) in
     omega arith
 
 module _ (size command address : ℕ) where
@@ -121,7 +115,7 @@ module _ (count size command address : ℕ) (image : List ℕ) (whole : Run) whe
     pub area-fits : at + size ≤ length areas
     area-fits = rw g.at-is (area_in k count size (length areas) k_less g.rows)
 
-    module _ (ys : List ℕ) (r : RestPush) (n : ℕ) (states₁ : List Builder) (al : length area ≡ size) (sd : sound size b ≡ true)
+    module _ (ys : List ℕ) (r : Push (Option (ℕ × PduResponseHandle))) (n : ℕ) (states₁ : List Builder) (al : length area ≡ size) (sd : sound size b ≡ true)
         (e₁ : ys ≡ overlay areas at (after_rest area b i command (address + sent) (drop sent image)))
         (e₂ : said_rest r.answer ≡ rest_pushed size b i command (length (drop sent image)))
         (e₃ : (r.builder ≡ rest_builder size b command (length (drop sent image))) × (r.next ≡ rest_next size b i command (length (drop sent image))))
@@ -221,11 +215,11 @@ module _ (count size command address : ℕ) (image : List ℕ) (whole : Run) whe
   -- what the inner function promises of a result and a row
   abbrev Carried : Spreading → List ℕ → Type 0
   Carried r ys =
-      (r.answer ≡ Last (length whole.states)) × (((r.states ≡ padded whole.states) × (r.next ≡ whole.next)) × (ys ≡ whole.areas))
+      (r.answer ≡ Ok (length whole.states)) × (((r.states ≡ padded whole.states) × (r.next ≡ whole.next)) × (ys ≡ whole.areas))
 
   -- nothing is left: the row and the states are those of the whole run
   pub going_end : (area : List ℕ) (b : Builder) (areas : List ℕ) (states : List Builder) (k at sent i : ℕ) → Going area b areas states k at sent i → length image ≤ sent
-      → Carried (record { answer = Last k; states = states; next = i }) areas
+      → Carried (record { answer = Ok k; states = states; next = i }) areas
   unfolding padded
   going_end area b areas states k at sent i g h =
       let z : length (drop sent image) ≡ 0 = length-drop sent image ∙ omega arith in
@@ -238,7 +232,7 @@ module _ (count size command address : ℕ) (image : List ℕ) (whole : Run) whe
       sym (take-append-drop k states) ∙ rw (t, g.states-free, l) refl in
       (rw l refl, ((p, n), a))
 
-  going_start : (row : List ℕ) (first : Builder) (index : ℕ) → Fillable (length row) size count first command address (length image)
+  pub going_start : (row : List ℕ) (first : Builder) (index : ℕ) → Fillable (length row) size count first command address (length image)
       → whole ≡ row_from size command address count (take size row) first index 0 row image → Going (take size row) first row (replicate 32 fresh) 0 0 0 index
   going_start row first index f e =
       record {
@@ -259,87 +253,82 @@ module _ (count size command address : ℕ) (image : List ℕ) (whole : Run) whe
         next-is = rw (sub-zero, e) refl;
       }
 
--- the run that is left at a place, with what is done before it
-unfoldable pub whole_at : ℕ → ℕ → ℕ → ℕ → List ℕ → List ℕ → List Builder → ℕ → ℕ → ℕ → ℕ → Run
-whole_at count size command address image areas states k at sent i =
-    let r = row_from size command address (count - k) (zeroed size) fresh i sent (drop at areas) (drop sent image) in
-    record { areas = take at areas ++ r.areas; states = take k states ++ r.states; next = r.next }
+-- area k comes next, which is the first as it stood, or one that is opened
+module _ (count size command address : ℕ) (image : List ℕ) (whole : Run) where
+  abbrev pub Before : Builder → List ℕ → List Builder → ℕ → ℕ → ℕ → Type 0
+  Before first areas states k sent i =
+      Going count size command address image whole (pick (eqb k 0) (take size areas) (zeroed size)) (begun_state k first) areas states k (k * size) sent i
 
--- an empty image
-pub nothing : (count size command address : ℕ) (row image : List ℕ) (first : Builder) (index : ℕ) (states : List Builder) → states ≡ padded [] → length image ≡ 0
-    → Carried count size command address image (row_from size command address count (take size row) first index 0 row image) (record { answer = Last 0; states = states; next = index }) row
-nothing count size command address row image first index states e h =
-    rw (row_stop size command address count (take size row) first index 0 row image h) (refl, ((e, refl), refl))
+  module _ (first : Builder) (areas : List ℕ) (states : List Builder) (k sent i : ℕ) (g : Before first areas states k sent i) (more : sent < length image) where
+    abbrev begins : List ℕ
+    begins = pick (eqb k 0) (take size areas) (zeroed size)
 
-module _ (count size command address : ℕ) (image : List ℕ) where
-  -- from there on
-  pub going_from : (whole : Run) (areas : List ℕ) (states : List Builder) (k at sent i : ℕ) → Going count size command address image whole (zeroed size) fresh areas states k at sent i
-      → Going count size command address image (whole_at count size command address image areas states k at sent i) (zeroed size) fresh areas states k at sent i
-  unfolding whole_at
-  going_from whole areas states k at sent i g =
-      record {
-        k-most = g.k-most;
-        at-is = g.at-is;
-        sent_most = g.sent_most;
-        enough = g.enough;
-        rows = g.rows;
-        size_most = g.size_most;
-        areas_at_most = g.areas_at_most;
-        given_most = g.given_most;
-        command_at_most = g.command_at_most;
-        address_most = g.address_most;
-        states-kept = g.states-kept;
-        states-free = g.states-free;
-        row_is = refl;
-        states_are = refl;
-        next-is = refl;
-      }
+    abbrev at : ℕ
+    at = k * size
 
-  pub whole-at : (whole : Run) (areas : List ℕ) (states : List Builder) (k at sent i : ℕ) → Going count size command address image whole (zeroed size) fresh areas states k at sent i
-      → whole_at count size command address image areas states k at sent i ≡ whole
-  unfolding whole_at
-  whole-at whole areas states k at sent i g = rw (g.row_is, g.states_are, g.next-is) refl
+    abbrev lent : List ℕ
+    lent = take (at + size - at) (drop at areas)
 
-  -- the first push
-  pub first_push : (areas ys : List ℕ) (first : Builder) (states states₁ : List Builder) (index : ℕ) (r : RestPush) (n : ℕ)
-      → Fillable (length areas) size count first command address (length image)
-      → (length image ≡ 0 → ⊥) → states ≡ padded []
-      → said_rest r.answer ≡ rest_pushed size first index command (length (drop 0 image))
-      → (r.builder ≡ rest_builder size first command (length (drop 0 image))) × (r.next ≡ rest_next size first index command (length (drop 0 image)))
-      → ys ≡ overlay areas 0 (after_rest (take size (drop 0 areas)) first index command address (drop 0 image))
-      → n ≡ first_of (said_rest r.answer)
-      → states₁ ≡ set states 0 r.builder
-      → Going count size command address image (row_from size command address count (take size areas) first index 0 areas image) (zeroed size) fresh ys states₁ 1 size n r.next
-  first_push areas ys first states states₁ index r n f pos e₀ e₁ e₂ e₃ e₄ e₅ =
-      let w = row_from size command address count (take size areas) first index 0 areas image in
-      let g = going_start count size command address image w areas first index f refl in
-      let a : address + 0 ≡ address = omega arith in
-      let p : 0 < length image = omega arith in
-      let fit : 0 + size ≤ length areas = area-fits count size command address image w (take size areas) first areas (replicate 32 fresh) 0 0 0 index g p in
-      let al : length (take size areas) ≡ size = length-take-le size areas (omega arith) in
-      let s = going_step count size command address image w (take size areas) first areas (replicate 32 fresh) 0 0 0 index g p ys r n states₁ al f.first_sound
-      (rw a e₃) e₁ e₂ e₄ (e₅ ∙ ap (λ (z : List Builder). set z 0 r.builder) (e₀ ∙ padded-none)) in
-      rw (zero-add size, zero-add n) at s
+    abbrev given : List ℕ
+    given = take (length image - sent) (drop sent image)
 
-  -- an area opened, and a push into it
-  pub again : (whole : Run) (areas zs ys : List ℕ) (states states₁ : List Builder) (k at sent i : ℕ) (none : Builder) (r : RestPush) (n : ℕ)
-      → Going count size command address image whole (zeroed size) fresh areas states k at sent i → sent < length image → none ≡ fresh
-      → zs ≡ overlay areas at (zeroed size)
-      → said_rest r.answer ≡ rest_pushed size none i command (length (drop sent image))
-      → (r.builder ≡ rest_builder size none command (length (drop sent image))) × (r.next ≡ rest_next size none i command (length (drop sent image)))
-      → ys ≡ overlay zs at (after_rest (take size (drop at zs)) none i command (address + sent) (drop sent image))
-      → n ≡ first_of (said_rest r.answer)
-      → states₁ ≡ set states k r.builder
-      → Going count size command address image whole (zeroed size) fresh ys states₁ (k + 1) (at + size) (sent + n) r.next
-  again whole areas zs ys states states₁ k at sent i none r n g more e₀ e₁ e₂ e₃ e₄ e₅ e₆ =
-      let fit : at + size ≤ length areas = area-fits count size command address image whole (zeroed size) fresh areas states k at sent i g more in
-      let z : length (zeroed size) ≡ size = zeroed-length size in
-      let h : at + length (zeroed size) ≤ length areas = omega arith in
-      let mid : take size (drop at zs) ≡ zeroed size =
-      ap (λ (x : List ℕ). take size (drop at x)) e₁ ∙ ap (λ (n : ℕ). take n (drop at (overlay areas at (zeroed size)))) (sym z) ∙ middle_overlay areas at (zeroed size) h in
-      let sd : sound size fresh ≡ true = opened-sound size g.size_most in
-      let left = after_rest (zeroed size) fresh i command (address + sent) (drop sent image) in
-      let ll : length left ≡ size = length-after_rest (zeroed size) fresh i command (address + sent) (drop sent image) ∙ z in
-      let y : ys ≡ overlay areas at left = e₄ ∙ rw (mid, e₀, e₁) (overlay_again areas at (zeroed size) h left (ll ∙ sym z)) in
-      going_step count size command address image whole (zeroed size) fresh areas states k at sent i g more ys r n states₁ z sd y
-      (e₂ ∙ rw e₀ refl) (e₃.0 ∙ rw e₀ refl, e₃.1 ∙ rw e₀ refl) e₅ e₆
+    pub area_there : at + size ≤ length areas
+    area_there = area-fits count size command address image whole begins (begun_state k first) areas states k at sent i g more
+
+    lent_length : length lent ≡ size
+    lent_length = ap length (part_is at size areas) ∙ part_length at size areas area_there
+
+    begins-is : begun_area k lent ≡ begins
+    begins-is = go (eqb k 0) refl
+      where
+        go : (t : Bool) → eqb k 0 ≡ t → pick t lent (zeroed (length lent)) ≡ pick t (take size areas) (zeroed size)
+        go true e =
+            let z : k ≡ 0 = eqb-true k 0 e in
+            let n : at ≡ 0 = ap (λ (m : ℕ). m * size) z ∙ zero-mul size in
+            part_is at size areas ∙ ap (λ (m : ℕ). take size (drop m areas)) n
+        go false e = ap zeroed lent_length
+
+    begins_length : length begins ≡ size
+    begins_length = go (eqb k 0)
+      where
+        go : (t : Bool) → length (pick t (take size areas) (zeroed size)) ≡ size
+        go true = length-take-le size areas (omega (arith, area_there))
+        go false = zeroed-length size
+
+    begins_sound : sound size first ≡ true → sound size (begun_state k first) ≡ true
+    begins_sound sd = go (eqb k 0)
+      where
+        go : (t : Bool) → sound size (pick t first fresh) ≡ true
+        go true = sd
+        go false = opened-sound size g.size_most
+
+    -- a push is made into it
+    pub step : (b : Builder) (part left ys : List ℕ) (r : Push (Option (ℕ × PduResponseHandle))) (n : ℕ) (states₁ : List Builder) → sound size first ≡ true
+        → b ≡ begun_state k first
+        → part ≡ begun_area k lent
+        → said_rest r.answer ≡ rest_pushed (length part) b i command (length given)
+        → (r.builder ≡ rest_builder (length part) b command (length given)) × (r.next ≡ rest_next (length part) b i command (length given))
+        → left ≡ after_rest part b i command (address + sent) given
+        → ys ≡ put_mid at (at + size - at) areas left
+        → n ≡ first_of (said_rest r.answer)
+        → states₁ ≡ set states k r.builder
+        → Before first ys states₁ (k + 1) (sent + n) r.next
+    step b part left ys r n states₁ sd eb e₀ e₁ e₂ e₃ e₄ e₅ e₆ =
+        let t : given ≡ drop sent image = take_all (length image - sent) (drop sent image) (simp length-drop (omega arith)) in
+        let p : part ≡ begins = e₀ ∙ begins-is in
+        let l : length part ≡ size = ap length p ∙ begins_length in
+        let ll : length left ≡ at + size - at = ap length e₃ ∙ length-after_rest part b i command (address + sent) given ∙ l ∙ sym (add-sub_cancel_left at size) in
+        let y : ys ≡ overlay areas at (after_rest begins (begun_state k first) i command (address + sent) (drop sent image)) =
+        e₄ ∙ overlay_part at (at + size - at) areas left _ (e₃ ∙ rw (p, eb, t) refl) ll in
+        let s = going_step count size command address image whole begins (begun_state k first) areas states k at sent i g more ys r n states₁ begins_length (begins_sound sd) y
+        (e₁ ∙ rw (l, eb, t) refl) (e₂.0 ∙ rw (l, eb, t) refl, e₂.1 ∙ rw (l, eb, t) refl) e₅ e₆ in
+        let z : eqb (k + 1) 0 ≡ false = ne_eqb (k + 1) 0 (λ e. omega arith) in
+        let m : (k + 1) * size ≡ at + size = rw (add-one k, suc-mul k size) refl in
+        rw (z, m) s
+
+-- the first comes next
+pub before_first : (count size command address : ℕ) (row image : List ℕ) (first : Builder) (index : ℕ) (states : List Builder)
+    → Fillable (length row) size count first command address (length image) → states ≡ padded []
+    → Before count size command address image (row_from size command address count (take size row) first index 0 row image) first row states 0 0 index
+before_first count size command address row image first index states f e =
+    rw (e, padded-none, zero-mul size) (going_start count size command address image _ row first index f refl)

@@ -2,21 +2,16 @@
 use mathlib.Core.Path.{◌≡◌, refl, sym, ap, ◌∙◌}
 use mathlib.Core.Bool.{Bool, true, false, ◌&&◌}
 use mathlib.Core.List.{List, []}
-use Prim.Native.Nat.{ℕ, ◌+◌, ◌*◌, ◌/◌, ◌%◌}
+use Prim.Native.Nat.{ℕ, ◌+◌, ◌*◌, ◌/◌, ◌%◌, ◌≤◌}
 use native.Mathlib.Omega.{arith}
 use native.Mathlib.Nat.{div-add-mod', add-zero}
 use borrow.Author.Tests.{leb-true, le-leb, eqb-true, eq-eqb}
 use lib.Dec.{leb}
 use lib.ListN.{length, take, replicate}
-use Rattle.refusal.specs.Said.{said_of}
-use Rattle.refusal.specs.declared.Refusal.{Refusal}
 use Rattle.refusal.proofs.Tests.{both}
 use Rattle.created_frame.specs.declared.Builder.{Builder}
 use Rattle.created_frame.specs.Frame.{fresh}
-use Rattle.spread.specs.declared.Spreading.{Spreading}
-use Rattle.spread.specs.declared.SpreadAnswer.TheVariants.{Last, No}
-use Rattle.spread.specs.Answers.{Promised}
-use Rattle.spread.specs.Row.{address_end, Run, stopped, row_from, lawful, room_in, padded, Outcome, done, no, spread_of}
+use Rattle.spread.specs.Row.{address_end, Run, row_from, lawful, room_in, padded, Outcome, done, no, spread_of, Fillable}
 use Rattle.spread.specs.Demand.{Bounds}
 
 pub padded-none : padded [] ≡ replicate 32 fresh
@@ -117,11 +112,19 @@ module _ (row : List ℕ) (size : ℕ) (first : Builder) (index command address 
       go true true false p q r = rw (refused_13 p q r) (c p q r)
       go true true true p q r = rw (is-done p q r) (d p q r)
 
-  -- what each leaves is what is promised
-  pub met_no : (r : Spreading) (x : Refusal) (ys : List ℕ) (n : ℕ) → out ≡ record { said = said_of x; run = stopped ys n }
-      → r ≡ record { answer = No x; states = padded []; next = n } → Promised row size first index command address image r ys
-  met_no r x ys n e q = rw (e, q) (refl, ((refl, refl), refl))
-
-  pub met_done : (r : Spreading) (ys : List ℕ) → out ≡ done run
-      → r.answer ≡ Last (length run.states) → (r.states ≡ padded run.states) × (r.next ≡ run.next) → ys ≡ run.areas → Promised row size first index command address image r ys
-  met_done r ys e a s w = rw (e, a) (refl, (s, w))
+  -- what is carried is within the bounds
+  pub fillable : bounds ≡ true → address + length image ≤ address_end → length image ≤ room_in (length row / size) size first.used
+      → Fillable (length row) size (length row / size) first command address (length image)
+  fillable e f g =
+      let b = law (length row) size first command (length image) e in
+      record {
+        size_most = b.size_most;
+        row_whole = b.row_whole;
+        areas_some = b.areas_some;
+        areas_at_most = b.areas_at_most;
+        given_most = b.given_most;
+        command_at_most = b.command_at_most;
+        first_sound = b.first_sound;
+        address_most = f;
+        room = g;
+      }

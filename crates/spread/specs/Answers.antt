@@ -1,16 +1,14 @@
 -- The answer on paper, RULES' number and values for each case; and what the call promises. Definitions only.
-use Rattle.std.specs.Prelude.{◌≡◌, ℕ, List, [], ◌∷◌, get_or}
-use Rattle.refusal.specs.Said.{Said, gives, absent, refuses, said_of}
+use Rattle.std.specs.Prelude.{◌≡◌, ℕ, List, get_or, Result}
+use Rattle.refusal.specs.Said.{Said, gives, absent, refuses, said, number_value}
+use Rattle.refusal.specs.declared.Refusal.{Refusal}
 use Rattle.created_frame.specs.declared.Builder.{Builder}
-use Rattle.spread.specs.declared.SpreadAnswer.{SpreadAnswer}
-use Rattle.spread.specs.declared.SpreadAnswer.TheVariants.{Last, No}
 use Rattle.spread.specs.declared.Spreading.{Spreading}
 use Rattle.spread.specs.Row.{padded, spread_of}
 
 -- the last area's number
-abbrev pub said_last : SpreadAnswer → Said
-said_last (Last k) = gives (k ∷ [])
-said_last (No x) = said_of x
+abbrev pub said_last : Result ℕ Refusal → Said
+said_last = said number_value
 
 -- the first value that is given, or 0: how many bytes a push took
 abbrev pub first_of : Said → ℕ

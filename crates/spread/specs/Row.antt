@@ -100,6 +100,13 @@ spread_of row size first index command address image =
     (no 1 row index))
     (no 14 row index)
 
+-- the state that area k begins with, and what stands in it: the first area has them, and the others are opened
+abbrev pub begun_state : ℕ → Builder → Builder
+begun_state k first = pick (eqb k 0) first fresh
+
+abbrev pub begun_area : ℕ → List ℕ → List ℕ
+begun_area k area = pick (eqb k 0) area (zeroed (length area))
+
 -- what the inner function is called with
 pub record Fillable (total size count : ℕ) (first : Builder) (command address given : ℕ) : Type 0 where
   pub size_most : size ≤ area_most

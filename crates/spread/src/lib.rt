@@ -2,16 +2,13 @@
 // The Rust leaves this to its callers. The rule is specs/Row.antt, and the contract `Promised` says that the call follows it; what that comes to is one statement, specs/Demand.antt.
 #![tactic(auto)]
 
-ghost use Rattle.std.specs.Prelude.{◌≡◌, ◌+◌, ◌-◌, ◌*◌, ◌≤◌, [], length, take, drop};
-ghost use Rattle.wire.specs.Bytes.{overlay};
+ghost use Rattle.std.specs.Prelude.{Ok, Err, ◌≡◌, ◌≤◌, [], length, take};
 ghost use Rattle.pdu.specs.Pdu.{area_most};
-ghost use Rattle.created_frame.specs.Frame.{fresh, rest_pushed, rest_builder, rest_next, after_rest};
 ghost use Rattle.created_frame.specs.Answers.{said_rest};
 ghost use Rattle.spread.specs.Answers.{first_of, Promised};
-ghost use Rattle.spread.specs.declared.SpreadAnswer.TheVariants.{Last, No};
-ghost use Rattle.spread.specs.Row.{areas_most, zeroed, row_from, lawful, room_in, padded, Fillable};
+ghost use Rattle.spread.specs.Row.{areas_most, row_from, lawful, room_in, padded, begun_state, begun_area, Fillable};
 
-use created_frame::{Builder, PDU_OVERHEAD_BYTES, Rest, RestPush};
+use created_frame::{Builder, PDU_OVERHEAD_BYTES, PduResponseHandle};
 use pdu::AREA_MOST;
 use refusal::Refusal;
 
@@ -19,33 +16,28 @@ const AREAS_MOST: usize = 32;
 
 const IMAGE_MOST: usize = 65535;
 
-// LRD, LWR, LRW.
+// LRD, LWR, LRW: numbers and no enum, since the call takes any and refuses the others with 14.
 const COMMAND_LEAST: u8 = 10;
 
 const COMMAND_LAST: u8 = 12;
 
 const ADDRESS_END: usize = 4294967296;
 
-// What a spreading answers.
-#[derive(Clone, Copy)]
-pub enum SpreadAnswer {
-    // The last area's number, from 1; 0 where the image is empty.
-    Last(usize),
-    // 14: size, row, image, command or state out of bounds. 1: the addresses pass the last. 13: no permitted cutting exists.
-    No(Refusal),
-}
-
-// Its answer, the builder's state of each area up to the last, and the index of the next PDU.
+// Its answer, the builder's state of each area up to the last, and the index of the next PDU. The answer is the last area's number, or the refusal.
+// States and index stand beside it and not in its Ok, since the contract `Promised` and the theorem Demand3 speak of both where the call is refused.
 #[derive(Clone, Copy)]
 pub struct Spreading {
-    pub answer: SpreadAnswer,
-    // The places behind the last area's hold the state of an empty area.
-    pub states: [Builder; 32],
+    pub answer: Result<usize, Refusal>,
+    // A row of fixed length, as there is no heap: the answer says how many are areas', and the places behind hold the state of an empty area.
+    pub states: [Builder; AREAS_MOST],
     pub next: u8,
 }
 
 // The image goes over the areas of the row, each of `size` bytes, as logical PDUs of this command from this address on.
-// The first area has the state `first`; the others are opened before they are used.
+// The first area has the state `first`; the others are opened before they are used. What is out of bounds is refused with 14,
+// addresses that pass the last with 1, and an image that the areas have no room for with 13.
+// Its parameters stand side by side and in no struct: the C interface and the contract `Promised` take them one by one.
+#[tactic(auto, using(crate::proofs::Laws::law, crate::proofs::Laws::fillable), unfolding(crate::specs::Row::spread_of))]
 pub fn spread(
     areas: &mut [u8],
     size: usize,
@@ -57,151 +49,91 @@ pub fn spread(
 ) -> Spreading
     ensures { Promised areas.old size first index command address image.now result areas.new }
 {
-    let total = areas.len();
     let given = image.len();
-    if is_lawful(total, size, first, command, given) {
-        if given + (address as usize) <= ADDRESS_END {
-            let count = total / size;
-            let used = first.used;
-            if given <= room_for(count, size, used) {
-                carry(areas, size, count, first, index, command, address, image)
-            } else {
-                refused(Refusal::NoRoom, index)
-            }
-        } else {
-            refused(Refusal::Address, index)
-        }
-    } else {
-        refused(Refusal::BadArgument, index)
+    if !is_lawful(areas.len(), size, first, command, given) {
+        return refused(Refusal::BadArgument, index);
     }
+    if given + (address as usize) > ADDRESS_END {
+        return refused(Refusal::Address, index);
+    }
+    let count = areas.len() / size;
+    if given > room_for(count, size, first.used) {
+        return refused(Refusal::NoRoom, index);
+    }
+    carry(areas, size, count, first, index, command, address, image)
 }
 
 // Size, row, image, command and state are within the bounds: what is not is refused as 14.
+#[tactic(auto, unfolding(crate::specs::Row::lawful))]
 fn is_lawful(total: usize, size: usize, first: Builder, command: u8, given: usize) -> bool
     ensures { result ≡ lawful total size first command given }
 {
-    if size < 1 {
-        return false;
-    }
-    if AREA_MOST < size {
-        return false;
-    }
-    if total % size != 0 {
+    if size < 1 || size > AREA_MOST {
         return false;
     }
     let count = total / size;
-    if count < 1 {
-        return false;
-    }
-    if AREAS_MOST < count {
-        return false;
-    }
-    if IMAGE_MOST < given {
-        return false;
-    }
-    if command < COMMAND_LEAST {
-        return false;
-    }
-    if COMMAND_LAST < command {
-        return false;
-    }
-    created_frame::is_sound(size, first)
-}
-
-// a - b, and never below 0.
-fn monus(a: usize, b: usize) -> usize
-    ensures { result ≡ a - b }
-{
-    if a < b {
-        return 0;
-    }
-    a - b
+    total % size == 0
+        && 1 <= count
+        && count <= AREAS_MOST
+        && given <= IMAGE_MOST
+        && COMMAND_LEAST <= command
+        && command <= COMMAND_LAST
+        && created_frame::is_sound(size, first)
 }
 
 // How many bytes of an image the areas have room for.
+#[tactic(auto, using(crate::proofs::Going::room_sum))]
 fn room_for(count: usize, size: usize, used: usize) -> usize
     requires { (1 ≤ count) × (count ≤ areas_most) × (size ≤ area_most) }
     ensures { result ≡ room_in count size used }
 {
-    let later = monus(size, PDU_OVERHEAD_BYTES);
-    monus(monus(size, used), PDU_OVERHEAD_BYTES) + (count - 1) * later
-}
-
-fn empty() -> Builder
-    ensures { result ≡ fresh }
-{
-    Builder {
-        used: 0,
-        count: 0,
-        last: 0,
-    }
+    let later = size.saturating_sub(PDU_OVERHEAD_BYTES);
+    size.saturating_sub(used).saturating_sub(PDU_OVERHEAD_BYTES) + (count - 1) * later
 }
 
 // The states of no areas.
-fn no_states() -> [Builder; 32]
+#[tactic(auto, using(created_frame::proofs::Blank::builder_blank), unfolding(crate::specs::Row::padded))]
+fn no_states() -> [Builder; AREAS_MOST]
     ensures { result ≡ padded [] }
 {
-    let none = empty();
-    [none; 32]
+    [Builder::default(); AREAS_MOST]
 }
 
 fn refused(why: Refusal, index: u8) -> Spreading
-    ensures { result ≡ record { answer = No why; states = padded []; next = index } }
+    ensures { result ≡ record { answer = Err why; states = padded []; next = index } }
 {
-    let states = no_states();
     Spreading {
-        answer: SpreadAnswer::No(why),
-        states,
+        answer: Err(why),
+        states: no_states(),
         next: index,
     }
 }
 
 // How many bytes a push took.
-fn taken_of(r: Rest) -> usize
+fn taken_of(r: Result<Option<(usize, PduResponseHandle)>, Refusal>) -> usize
     ensures { result ≡ first_of (said_rest r) }
 {
     match r {
-        Rest::Done { taken, pdu: _ } => taken,
-        Rest::Absent => 0,
-        Rest::No(_) => 0,
+        Ok(Some((taken, _))) => taken,
+        Ok(None) | Err(_) => 0,
     }
 }
 
-// The area of `size` bytes at `at` is opened.
-fn open_at(areas: &mut [u8], at: usize, size: usize)
-    requires { (at + size ≤ length areas.old) × (size ≤ area_most) }
-    ensures { areas.new ≡ overlay areas.old at (zeroed size) }
+// The state that area k begins with: the first has one, and the others are opened.
+#[tactic(auto, using(crate::proofs::Parts::opened_ok), unfolding(crate::specs::Row::zeroed, created_frame::specs::Frame::after_open))]
+fn begun(area: &mut [u8], k: usize, first: Builder) -> Builder
+    requires { length area.old ≤ area_most }
+    ensures state { result ≡ begun_state k first }
+    ensures whole { area.new ≡ begun_area k area.old }
 {
-    let end = at + size;
-    let area = &mut areas[at..end];
-    created_frame::open(area);
+    if k == 0 {
+        first
+    } else {
+        created_frame::open(area).unwrap()
+    }
 }
 
-// As many bytes of the image, from `from` on, as fit are pushed into that area, whose state is b.
-fn push_at(
-    areas: &mut [u8],
-    at: usize,
-    size: usize,
-    b: Builder,
-    index: u8,
-    command: u8,
-    address: u32,
-    image: &[u8],
-    from: usize,
-) -> RestPush
-    requires { (at + size ≤ length areas.old) × (from ≤ length image.now) }
-    ensures answer { said_rest result.answer ≡ rest_pushed size b index command (length (drop from image.now)) }
-    ensures state { (result.builder ≡ rest_builder size b command (length (drop from image.now)))
-        × (result.next ≡ rest_next size b index command (length (drop from image.now))) }
-    ensures whole { areas.new ≡
-        overlay areas.old at (after_rest (take size (drop at areas.old)) b index command address (drop from image.now)) }
-{
-    let end = at + size;
-    let area = &mut areas[at..end];
-    created_frame::push_pdu_slice_rest(area, b, index, command, address, &image[from..])
-}
-
-// The image goes into the areas, which have room for it.
+// The image goes into the areas, which have room for it. The parameters are those of `spread`, one by one as there, and the areas' number.
 fn carry(
     areas: &mut [u8],
     size: usize,
@@ -213,43 +145,31 @@ fn carry(
     image: &[u8],
 ) -> Spreading
     requires { Fillable (length areas.old) size count first command address (length image.now) }
-    ensures answer { result.answer ≡ Last (length (row_from size command address count (take size areas.old) first index 0 areas.old image.now).states) }
+    ensures answer { result.answer ≡ Ok (length (row_from size command address count (take size areas.old) first index 0 areas.old image.now).states) }
     ensures state { (result.states ≡ padded (row_from size command address count (take size areas.old) first index 0 areas.old image.now).states)
         × (result.next ≡ (row_from size command address count (take size areas.old) first index 0 areas.old image.now).next) }
     ensures whole { areas.new ≡ (row_from size command address count (take size areas.old) first index 0 areas.old image.now).areas }
 {
-    let none = empty();
     let mut states = no_states();
-    if image.len() == 0 {
-        return Spreading {
-            answer: SpreadAnswer::Last(0),
-            states,
-            next: index,
-        };
-    }
-    let s = push_at(areas, 0, size, first, index, command, address, image, 0);
-    let state = s.builder;
-    let said = s.answer;
-    states[0] = state;
-    let mut k: usize = 1;
-    let mut at = size;
-    let mut sent = taken_of(said);
-    let mut i = s.next;
+    let mut k: usize = 0;
+    let mut sent: usize = 0;
+    let mut next = index;
+    // A `while` and no `for`: each push takes as many bytes as have room, and how many areas that makes is the answer. No `chunks_mut` either:
+    // once its borrow is over, a proof knows a slice's length and not its bytes.
     while sent < image.len() {
-        open_at(areas, at, size);
+        let at = k * size;
+        let area = &mut areas[at..at + size];
+        let b = begun(area, k, first);
         let a = address + sent as u32;
-        let p = push_at(areas, at, size, none, i, command, a, image, sent);
-        let after = p.builder;
-        let told = p.answer;
-        states[k] = after;
+        let p = created_frame::push_pdu_slice_rest(area, b, next, command, a, &image[sent..]);
+        states[k] = p.builder;
         k += 1;
-        at += size;
-        sent += taken_of(told);
-        i = p.next;
+        sent += taken_of(p.answer);
+        next = p.next;
     }
     Spreading {
-        answer: SpreadAnswer::Last(k),
+        answer: Ok(k),
         states,
-        next: i,
+        next,
     }
 }

@@ -19,7 +19,7 @@ use Rattle.eeprom.specs.Range.{byte_said, exact_said}
 use Rattle.eeprom.proofs.Laws.{bounds_of, fine-bounds, exact_gives, exact_none, exact_refuses, exact_given}
 use Rattle.category.specs.Numbers.{strings}
 use Rattle.category.specs.Category.{category_said}
-use Rattle.strings.specs.Strings.{string_past, passed_one, passed, on_exact, fitted, string_here, string_behind, string_in, sought_at, ascii, shown, text_said, room_most, fits, bounded, text_for, length_said, room_behind}
+use Rattle.strings.specs.Strings.{string_past, passed_one, passed, on_exact, fitted, string_here, string_behind, string_in, sought_at, ascii, shown, room_most, fits}
 use Rattle.strings.specs.Answers.{Small}
 
 -- ---- the rule of the last index
@@ -234,16 +234,3 @@ module _ (image : List ℕ) (k : ℕ) (t : Bool) (e : t ≡ fits image k) where
   pub fits-room : t ≡ true → k ≤ room_most
   unfolding fits
   fits-room p = leb-true k room_most (both (within image) (leb k room_most) (sym e ∙ p)).1
-
-  -- within the bounds, what is laid and answered is the text for the room
-  pub text_for_lem : (place sought r : Said) (room room' : List ℕ) → t ≡ true → place ≡ sought →
-      r ≡ length_said (text_said image place) → room' ≡ room_behind (text_said image place) room →
-      (r ≡ length_said (text_for image k sought)) × (room' ≡ room_behind (text_for image k sought) room)
-  unfolding text_for bounded
-  text_for_lem place sought r room room' p q a b = rw (← e, p, ← q) (a, b)
-
-  -- outside them, the room stays
-  pub text_not : (place : Said) (room : List ℕ) → t ≡ false →
-      (refuses 14 [] ≡ length_said (text_for image k place)) × (room ≡ room_behind (text_for image k place) room)
-  unfolding text_for bounded length_said room_behind
-  text_not place room p = rw (← e, p) (refl, refl)

@@ -11,7 +11,7 @@ use Rattle.category.specs.Numbers as numbers
 use Rattle.category.specs.Category.{category_said}
 use Rattle.sii.specs.Layout.{field, order_idx, name_idx, general_bytes}
 use Rattle.sii.specs.General.{general_of, general_admits, general_values, general_in, general_found, needed, general_said}
-use Rattle.strings.specs.Strings.{fits, bounded, text_said, text_for, sought_at, string_said, length_said, room_behind}
+use Rattle.strings.specs.Strings.{fits, bounded, text_said, text_for, sought_at, string_said}
 use Rattle.strings.specs.Names.{order_of, name_of, on_general, string_by, name_said, description_said}
 use Rattle.strings.specs.Plain.{Plain}
 use Rattle.strings.proofs.Given.{string_given}
@@ -37,10 +37,6 @@ module _ (image : List ℕ) (k : ℕ) (said : Said) (index : List ℕ → ℕ) w
   unfolding string_by on_general bounded
   by_refuses n v t h = rw (t, h)
 
-  pub by_out : fits image k ≡ false → string_by image k said index ≡ refuses 14 []
-  unfolding string_by bounded
-  by_out t = rw t
-
   -- a text given is plain and fits its room
   by-given : (text : List ℕ) → string_by image k said index ≡ gives text → Plain text × (length text ≤ k)
   unfolding string_by on_general bounded
@@ -55,21 +51,6 @@ module _ (image : List ℕ) (k : ℕ) (said : Said) (index : List ℕ → ℕ) w
       go true absent e = let z : ◌≡◌ {A = ℕ} 0 1 = cc in absurd (omega arith)
       go true (refuses n v) e = never e
       go false said e = never e
-
--- ---- what is answered, and what is left in the room
-
--- a string's answer and room are those of what it equals
-pub as_said : (s s' r : Said) (room room' : List ℕ) → s' ≡ s → r ≡ length_said s → room' ≡ room_behind s room →
-    (r ≡ length_said s') × (room' ≡ room_behind s' room)
-as_said s s' r room room' h a b = rw h (a, b)
-
-pub as_absent : (s : Said) (room : List ℕ) → s ≡ absent → (absent ≡ length_said s) × (room ≡ room_behind s room)
-unfolding length_said room_behind
-as_absent s room h = rw h (refl, refl)
-
-pub as_refused : (s : Said) (n : ℕ) (v : List ℕ) (room : List ℕ) → s ≡ refuses n v → (refuses n v ≡ length_said s) × (room ≡ room_behind s room)
-unfolding length_said room_behind
-as_refused s n v room h = rw h (refl, refl)
 
 -- ---- name and description
 

@@ -1,21 +1,18 @@
 -- What each answer says on paper, in numbers and values (RULES, refusals). Definitions only.
-use Rattle.std.specs.Prelude.{ℕ, ◌≤◌, [], ◌∷◌, get_or}
-use Rattle.refusal.specs.Said.{Said, gives, absent, refuses, said_of}
+use Rattle.std.specs.Prelude.{ℕ, List, ◌≤◌, [], ◌∷◌, get_or, Option, Result}
+use Rattle.refusal.specs.Said.{Said, gives, absent, refuses, said_if_any, number_value}
+use Rattle.refusal.specs.declared.Refusal.{Refusal}
 use Rattle.eeprom.specs.Image.{image_most}
-use Rattle.strings.specs.declared.Place.{Place}
-use Rattle.strings.specs.declared.Place.TheVariants as place
-use Rattle.strings.specs.declared.StringAnswer.{StringAnswer}
-use Rattle.strings.specs.declared.StringAnswer.TheVariants as string
 
-abbrev pub said_string : StringAnswer → Said
-said_string (string.Length n) = gives (n ∷ [])
-said_string string.Absent = absent
-said_string (string.No x) = said_of x
+abbrev pub said_string : Result (Option ℕ) Refusal → Said
+said_string = said_if_any number_value
 
-abbrev pub said_place : Place → Said
-said_place (place.At p n) = gives (p ∷ n ∷ [])
-said_place place.Absent = absent
-said_place (place.No x) = said_of x
+-- a place: where the bytes stand, and how many are stored
+abbrev pub place_values : ℕ × ℕ → List ℕ
+place_values r = r.0 ∷ r.1 ∷ []
+
+abbrev pub said_place : Result (Option (ℕ × ℕ)) Refusal → Said
+said_place = said_if_any place_values
 
 -- the bytes at the place have room, and the place lies within the limit
 abbrev pub Small : ℕ → Said → Type 0

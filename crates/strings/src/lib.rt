@@ -3,7 +3,8 @@
 // A string is found by reading alone, and the room is written once it is known to be readable: a refusal has touched nothing.
 #![tactic(auto)]
 
-ghost use Rattle.std.specs.Prelude.{◌≡◌, List, [], ◌∷◌, true, ℕ, ◌+◌, ◌-◌, ◌≤◌, ◌<◌, length};
+ghost use Rattle.std.specs.Prelude.{MatchResult, false, ◌≡◌, List, [], ◌∷◌, true, ℕ, ◌+◌, ◌-◌, ◌≤◌, ◌<◌, length};
+ghost use Rattle.refusal.specs.declared.Refusal.TheVariants as Refusal;
 ghost use Rattle.wire.specs.Bytes.{span, overlay};
 ghost use Rattle.eeprom.specs.Image.{image_most, fine};
 ghost use Rattle.eeprom.specs.Answers.{said_range};
@@ -11,10 +12,10 @@ ghost use Rattle.strings.specs.Strings.{string_past, passed_one, passed, fitted,
 ghost use Rattle.strings.specs.Names.{name_said, description_said};
 ghost use Rattle.strings.specs.Answers.{said_place, said_string, Small};
 
-use category::{Found, STRINGS, category};
-use eeprom::{ByteAnswer, Chunk, Pos, Range, RangeAnswer, byte_of, image_within};
+use category::{STRINGS, category};
+use eeprom::{Chunk, Pos, Range, byte_of};
 use refusal::Refusal;
-use sii::{GeneralAnswer, GeneralFound, find_general, general};
+use sii::{find_general, general};
 
 // The most bytes that a room has.
 const ROOM_MOST: usize = 255;
@@ -22,203 +23,164 @@ const ROOM_MOST: usize = 255;
 // The first byte that is not ASCII.
 const ASCII_END: u8 = 0x80;
 
-// What a call on strings answers.
-#[derive(Clone, Copy)]
-pub enum StringAnswer {
-    // The text stands at the front of the room, so many bytes.
-    Length(u16),
-    // There is no such string. The room is as it was, here and below.
-    Absent,
-    // 14: the image or the room is too long. 1 and 2: reading fails. 4: the stored string is longer than the room.
-    // 3 and 5: General is not found, or has undefined bits.
-    No(Refusal),
-}
-
-// Where a string's bytes stand, and how many are stored.
-#[derive(Clone, Copy)]
-enum Place {
-    At(Pos, u16),
-    Absent,
-    No(Refusal),
-}
-
-// Puts the string of an index into the room, and answers its length. Index 0 is absent.
-pub fn find_string(image: &[u8], chunk: Chunk, index: u8, room: &mut [u8]) -> StringAnswer
+// Puts the string of an index into the room, and answers its length: the text stands at the front of the room. Index 0 is absent.
+// Refuses 14 where the image or the room is too long, 1 and 2 where reading fails, and 4 where the stored string is longer than the room.
+// Absent or refused, the room is as it was, here and below.
+#[tactic(auto, unfolding(crate::specs::Strings::string_said, crate::specs::Strings::text_for, crate::specs::Strings::bounded, crate::specs::Strings::text_said, crate::specs::Strings::length_said, crate::specs::Strings::room_behind, refusal::specs::Said::on2))]
+pub fn find_string(
+    image: &[u8],
+    chunk: Chunk,
+    index: u8,
+    room: &mut [u8],
+) -> Result<Option<u16>, Refusal>
     ensures said { said_string result ≡ length_said (string_said image.now index (length room.old)) }
     ensures lent { room.new ≡ room_behind (string_said image.now index (length room.old)) room.old }
 {
-    if sound(image, room) {
-        let k = room.len();
-        let place = sought(image, chunk, index, k as u16);
-        text(image, chunk, place, room)
-    } else {
-        StringAnswer::No(Refusal::BadArgument)
-    }
+    checked(image, room)?;
+    let Some((at, n)) = sought(image, chunk, index, room.len() as u16)? else {
+        return Ok(None);
+    };
+    let k = lay_text(image, chunk, at, u32::from(n), room);
+    Ok(Some(k as u16))
 }
 
 // Puts the device's name into the room, and answers its length: the string of General's order index. Absent without General.
-pub fn device_name(image: &[u8], chunk: Chunk, room: &mut [u8]) -> StringAnswer
+// Refuses as `find_string`, and 2 or 5 where General is cut or has undefined bits.
+#[tactic(auto, unfolding(crate::specs::Names::name_said, crate::specs::Names::string_by, crate::specs::Names::on_general, crate::specs::Strings::bounded, crate::specs::Strings::length_said, crate::specs::Strings::room_behind))]
+pub fn device_name(image: &[u8], chunk: Chunk, room: &mut [u8]) -> Result<Option<u16>, Refusal>
     ensures said { said_string result ≡ length_said (name_said image.now (length room.old)) }
     ensures lent { room.new ≡ room_behind (name_said image.now (length room.old)) room.old }
 {
-    if sound(image, room) {
-        match find_general(image, chunk) {
-            GeneralFound::Is(g) => find_string(image, chunk, g.order_string_idx, room),
-            GeneralFound::Absent => StringAnswer::Absent,
-            GeneralFound::No(x) => StringAnswer::No(x),
-        }
-    } else {
-        StringAnswer::No(Refusal::BadArgument)
+    checked(image, room)?;
+    match find_general(image, chunk)? {
+        Some(g) => find_string(image, chunk, g.order_string_idx, room),
+        None => Ok(None),
     }
 }
 
 // Puts the device's description into the room, and answers its length: the string of General's name index. 3 without General.
-pub fn device_description(image: &[u8], chunk: Chunk, room: &mut [u8]) -> StringAnswer
+#[tactic(auto, unfolding(crate::specs::Names::description_said, crate::specs::Names::string_by, crate::specs::Names::on_general, crate::specs::Strings::bounded, crate::specs::Strings::length_said, crate::specs::Strings::room_behind))]
+pub fn device_description(
+    image: &[u8],
+    chunk: Chunk,
+    room: &mut [u8],
+) -> Result<Option<u16>, Refusal>
     ensures said { said_string result ≡ length_said (description_said image.now (length room.old)) }
     ensures lent { room.new ≡ room_behind (description_said image.now (length room.old)) room.old }
 {
-    if sound(image, room) {
-        match general(image, chunk) {
-            GeneralAnswer::Is(g) => find_string(image, chunk, g.name_string_idx, room),
-            GeneralAnswer::No(x) => StringAnswer::No(x),
-        }
-    } else {
-        StringAnswer::No(Refusal::BadArgument)
-    }
+    checked(image, room)?;
+    let g = general(image, chunk)?;
+    find_string(image, chunk, g.name_string_idx, room)
 }
 
-// The image and the room are within their bounds.
-fn sound(image: &[u8], room: &[u8]) -> bool
-    ensures { result ≡ fits image.now (length room.now) }
+// The image and the room are within their bounds: else 14.
+#[tactic(auto, unfolding(crate::specs::Strings::fits))]
+fn checked(image: &[u8], room: &[u8]) -> Result<(), Refusal>
+    ensures { MatchResult result (λ _. (fits image.now (length room.now) ≡ true) × (length room.now ≤ room_most)) (λ x. (x ≡ Refusal.BadArgument) × (fits image.now (length room.now) ≡ false)) }
 {
-    if image_within(image) {
-        room.len() <= ROOM_MOST
+    eeprom::checked(image)?;
+    if room.len() <= ROOM_MOST {
+        Ok(())
     } else {
-        false
+        Err(Refusal::BadArgument)
     }
 }
 
-// Where the string of an index stands.
-fn sought(image: &[u8], chunk: Chunk, index: u8, room: u16) -> Place
+// Where the string of an index stands, and how many bytes are stored.
+#[tactic(auto, unfolding(crate::specs::Strings::sought_at, refusal::specs::Said::on2))]
+fn sought(image: &[u8], chunk: Chunk, index: u8, room: u16) -> Result<Option<(Pos, u16)>, Refusal>
     ensures { said_place result ≡ sought_at image.now index room }
 {
     if index == 0 {
-        return Place::Absent;
+        return Ok(None);
     }
-    match category(image, chunk, STRINGS) {
-        Found::At(g) => in_strings(image, chunk, g, index - 1, room),
-        Found::Absent => Place::Absent,
-        Found::No(x) => Place::No(x),
+    match category(image, chunk, STRINGS)? {
+        Some(g) => in_strings(image, chunk, g, index - 1, room),
+        None => Ok(None),
     }
 }
 
 // .. in the category, behind the count and s strings.
-fn in_strings(image: &[u8], chunk: Chunk, g: Range, s: u8, room: u16) -> Place
+#[tactic(auto, unfolding(crate::specs::Strings::string_in, refusal::specs::Said::on3))]
+fn in_strings(
+    image: &[u8],
+    chunk: Chunk,
+    g: Range,
+    s: u8,
+    room: u16,
+) -> Result<Option<(Pos, u16)>, Refusal>
     ensures { said_place result ≡ string_in image.now s room g.byte_pos g.end }
 {
-    match g.read_byte(image, chunk) {
-        ByteAnswer::Byte(count, h) => {
-            if past(s, count) {
-                Place::Absent
-            } else {
-                behind(image, chunk, h, s, room)
-            }
-        }
-        ByteAnswer::No(x) => Place::No(x),
+    let (count, h) = g.read_byte(image, chunk)?;
+    if is_past(s, count) {
+        return Ok(None);
     }
+    behind(image, chunk, h, s, room)
 }
 
 // The count has no string behind s of them.
-fn past(s: u8, count: u8) -> bool
+#[tactic(auto, unfolding(crate::specs::Strings::string_past))]
+fn is_past(s: u8, count: u8) -> bool
     ensures { result ≡ string_past s count }
 {
     count <= s
 }
 
 // .. behind s strings.
-fn behind(image: &[u8], chunk: Chunk, g: Range, s: u8, room: u16) -> Place
+#[tactic(auto, unfolding(crate::specs::Strings::string_behind, refusal::specs::Said::on2))]
+fn behind(
+    image: &[u8],
+    chunk: Chunk,
+    g: Range,
+    s: u8,
+    room: u16,
+) -> Result<Option<(Pos, u16)>, Refusal>
     ensures { said_place result ≡ string_behind image.now s room g.byte_pos g.end }
 {
-    match pass(image, chunk, g, s) {
-        RangeAnswer::Made(h) => here(image, chunk, h, room),
-        RangeAnswer::No(x) => Place::No(x),
-    }
+    let h = pass(image, chunk, g, s)?;
+    here(image, chunk, h, room)
 }
 
 // Passes over s strings.
-fn pass(image: &[u8], chunk: Chunk, g: Range, s: u8) -> RangeAnswer
+fn pass(image: &[u8], chunk: Chunk, g: Range, s: u8) -> Result<Range, Refusal>
     ensures { said_range result ≡ passed s image.now g.byte_pos g.end }
 {
     let mut at = g;
-    let mut left = s;
-    while 0 < left {
-        match pass_one(image, chunk, at) {
-            RangeAnswer::Made(h) => {
-                at = h;
-            }
-            RangeAnswer::No(x) => {
-                return RangeAnswer::No(x);
-            }
-        }
-        left -= 1;
+    for _ in 0..s {
+        at = pass_one(image, chunk, at)?;
     }
-    RangeAnswer::Made(at)
+    Ok(at)
 }
 
 // Reads a length and skips it.
-fn pass_one(image: &[u8], chunk: Chunk, g: Range) -> RangeAnswer
+#[tactic(auto, unfolding(crate::specs::Strings::passed_one, refusal::specs::Said::on3))]
+fn pass_one(image: &[u8], chunk: Chunk, g: Range) -> Result<Range, Refusal>
     ensures { said_range result ≡ passed_one image.now g.byte_pos g.end }
 {
-    match g.read_byte(image, chunk) {
-        ByteAnswer::Byte(n, h) => h.skip_ahead_bytes(n as u16),
-        ByteAnswer::No(x) => RangeAnswer::No(x),
-    }
+    let (n, h) = g.read_byte(image, chunk)?;
+    h.skip_ahead_bytes(u16::from(n))
 }
 
 // Reads a length; the bytes stand behind it.
-fn here(image: &[u8], chunk: Chunk, g: Range, room: u16) -> Place
+#[tactic(auto, unfolding(crate::specs::Strings::string_here, refusal::specs::Said::on3))]
+fn here(image: &[u8], chunk: Chunk, g: Range, room: u16) -> Result<Option<(Pos, u16)>, Refusal>
     ensures { said_place result ≡ string_here image.now room g.byte_pos g.end }
 {
-    match g.read_byte(image, chunk) {
-        ByteAnswer::Byte(n, h) => fit(room, n as u16, h.byte_pos, h.end),
-        ByteAnswer::No(x) => Place::No(x),
-    }
+    let (n, h) = g.read_byte(image, chunk)?;
+    fit(room, u16::from(n), h)
 }
 
-// n bytes from pos on, for a room: an exact read of an image and a range within their bounds.
-fn fit(room: u16, n: u16, pos: Pos, end: Pos) -> Place
-    ensures { (image : List ℕ) → fine image pos end ≡ true → said_place result ≡ fitted image room n pos end }
+// n bytes from the range's position on, for a room: an exact read of an image and a range within their bounds.
+fn fit(room: u16, n: u16, g: Range) -> Result<Option<(Pos, u16)>, Refusal>
+    ensures { (image : List ℕ) → fine image g.byte_pos g.end ≡ true → said_place result ≡ fitted image room n g.byte_pos g.end }
 {
     if room < n {
-        return Place::No(Refusal::StringTooLong { room, stored: n });
+        return Err(Refusal::StringTooLong { room, stored: n });
     }
-    if (n as Pos) <= remaining(pos, end) {
-        Place::At(pos, n)
+    if Pos::from(n) <= g.end.saturating_sub(g.byte_pos) {
+        Ok(Some((g.byte_pos, n)))
     } else {
-        Place::No(Refusal::Overrun)
-    }
-}
-
-// How many bytes stand before the end.
-fn remaining(pos: Pos, end: Pos) -> Pos
-    ensures { result ≡ end - pos }
-{
-    if pos < end { end - pos } else { 0 }
-}
-
-// The text at a place goes to the front of the room.
-fn text(image: &[u8], chunk: Chunk, place: Place, room: &mut [u8]) -> StringAnswer
-    requires { (length room.old ≤ room_most) × Small (length room.old) (said_place place) }
-    ensures said { said_string result ≡ length_said (text_said image.now (said_place place)) }
-    ensures lent { room.new ≡ room_behind (text_said image.now (said_place place)) room.old }
-{
-    match place {
-        Place::At(p, n) => {
-            let k = lay_text(image, chunk, p, n as u32, room);
-            StringAnswer::Length(k as u16)
-        }
-        Place::Absent => StringAnswer::Absent,
-        Place::No(x) => StringAnswer::No(x),
+        Err(Refusal::Overrun)
     }
 }
 
@@ -229,12 +191,10 @@ fn lay_text(image: &[u8], chunk: Chunk, at: u32, n: u32, room: &mut [u8]) -> usi
     ensures most { result ≤ n }
     ensures lent { room.new ≡ overlay room.old 0 (shown (span image.now at n)) }
 {
-    let mut i = 0;
     let mut k = 0;
-    while i < n {
+    for i in 0..n {
         let b = byte_of(image, chunk, at + i);
         k = put(b, k, room);
-        i += 1;
     }
     k
 }

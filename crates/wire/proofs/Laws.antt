@@ -3,12 +3,12 @@ use Prim.Native.Nat.{ℕ, zero, suc, ◌+◌, ◌-◌, ◌*◌, ◌/◌, ◌%◌
 use native.Mathlib.Nat.{zero-add, add-zero, add-suc, suc-add, add_assoc, min-zero}
 use native.Mathlib.Numerals.{add-one, unary_clauses}
 use native.Mathlib.Omega.{arith}
-use mathlib.Core.Path.{◌≡◌, refl, sym, ap, ◌∙◌}
+use mathlib.Core.Path.{◌≡◌, refl, sym, ap}
 use mathlib.Core.Bool.{Bool, true, false}
 use mathlib.Core.List.{List, [], ◌∷◌, ◌++◌, append_assoc, append-nil}
 use lib.Dec.{leb, ltb}
 use lib.ListN.{length, get_or, set, take, drop, length-append, length-take, length-drop, get_or-eq_default, take-append-drop}
-use lib.Seq.{drop-cons, set_at, take_at, drop_at, drop-drop, take_all, take-nil, take-append-le, take-append-add, get_or-append-add}
+use lib.Seq.{drop-cons, set_at, take_at, drop_at, drop-drop, take_all, take-nil, take-append-le, take-append-add, get_or-append-add, get_or-drop}
 use borrow.Author.Tests.{ltb-true, ltb-false, leb-true, leb-false}
 use borrow.Rule.Slice.PartMut.{put_mid}
 use Rattle.wire.specs.Bytes.{byte_at, le16, le32, bytes16, bytes32, Bytes, span, filled, overlay, laid}
@@ -30,6 +30,11 @@ byte-out s i h = sym (get_or-eq_default s 255 h)
 pub byte-behind : (pre t : List ℕ) (k : ℕ) → byte_at (pre ++ t) (length pre + k) ≡ byte_at t k
 unfolding byte_at
 byte-behind pre t k = get_or-append-add pre t k 255
+
+-- .. and of what stands from i on as far on
+pub byte_dropped : (s : List ℕ) (i k : ℕ) → byte_at (drop i s) k ≡ byte_at s (i + k)
+unfolding byte_at
+byte_dropped s i k = get_or-drop i s k 255
 
 -- the elements of a lent slice are bytes, so those of its list are
 pub bytes-known : (s : List ℕ) → ((i : ℕ) → get_or s i 0 < 256) → Bytes s
@@ -63,33 +68,6 @@ bytes32-back n h =
     let high : n / 65536 % 256 + 256 * (n / 16777216) ≡ n / 65536 = omega arith in
     rw top (omega (arith, low, high))
 
--- ---- the place after another, past the end too
-
--- r reads as the place after i, and so do all that follow
-abbrev After : List ℕ → ℕ → ℕ → Type 0
-After s i r = (k : ℕ) → byte_at s (r + k) ≡ byte_at s (i + (k + 1))
-
-pub after-inside : (s : List ℕ) (i : ℕ) → After s i (i + 1)
-after-inside s i k =
-    let e : i + 1 + k ≡ i + (k + 1) = omega arith in
-    ap (byte_at s) e
-
-pub after_outside : (s : List ℕ) (i : ℕ) → length s ≤ i → After s i i
-after_outside s i h k = sym (byte-out s (i + k) (omega arith)) ∙ byte-out s (i + (k + 1)) (omega arith)
-
-pub after-byte : (s : List ℕ) (i r : ℕ) → After s i r → byte_at s r ≡ byte_at s (i + 1)
-after-byte s i r a =
-    let e : r + 0 ≡ r = omega arith in
-    let f : i + (0 + 1) ≡ i + 1 = omega arith in
-    sym (ap (byte_at s) e) ∙ a 0 ∙ ap (byte_at s) f
-
--- two steps on, a word reads the same
-pub after-word : (s : List ℕ) (i q r : ℕ) → After s i q → After s q r → le16 s r ≡ le16 s (i + 2)
-after-word s i q r a b =
-    let x : byte_at s r ≡ byte_at s (i + 2) = after-byte s q r b ∙ a 1 ∙ (let e : i + (1 + 1) ≡ i + 2 = omega arith in ap (byte_at s) e) in
-    let y : byte_at s (r + 1) ≡ byte_at s (i + 2 + 1) = b 1 ∙ a 2 ∙ (let e : i + (2 + 1) ≡ i + 2 + 1 = omega arith in ap (byte_at s) e) in
-    rw (x, y) refl
-
 -- ---- a stretch of bytes, and a buffer filled from it
 
 pub length-span : (s : List ℕ) (i n : ℕ) → length (span s i n) ≡ n
@@ -116,15 +94,15 @@ filled_none s i buf = refl
 -- ---- a list laid over another
 
 -- what stands before the end of what is laid
-pub front : (xs : List ℕ) (at : ℕ) (ys : List ℕ) → at + length ys ≤ length xs → length (take at xs ++ ys) ≡ at + length ys
+pub front : {A : Type 0} → (xs : List A) (at : ℕ) (ys : List A) → at + length ys ≤ length xs → length (take at xs ++ ys) ≡ at + length ys
 front xs at ys h = simp (length-append, length-take) (omega arith)
 
-pub length-overlay : (xs : List ℕ) (at : ℕ) (ys : List ℕ) → at + length ys ≤ length xs → length (overlay xs at ys) ≡ length xs
+pub length-overlay : {A : Type 0} → (xs : List A) (at : ℕ) (ys : List A) → at + length ys ≤ length xs → length (overlay xs at ys) ≡ length xs
 unfolding overlay
 length-overlay xs at ys h = simp (length-append, length-take, length-drop) (omega arith)
 
 -- a second list laid just behind the first is the two laid as one
-pub overlay-next : (xs : List ℕ) (at : ℕ) (ys zs : List ℕ) → at + length ys ≤ length xs
+pub overlay-next : {A : Type 0} → (xs : List A) (at : ℕ) (ys zs : List A) → at + length ys ≤ length xs
     → overlay (overlay xs at ys) (at + length ys) zs ≡ overlay xs at (ys ++ zs)
 unfolding overlay
 overlay-next xs at ys zs h =
@@ -140,34 +118,34 @@ overlay-next xs at ys zs h =
     )
 
 -- what a callee left in `&mut xs[a..a + k]`, put back in the whole, is laid over it
-pub overlay_part : (a k : ℕ) (xs ys zs : List ℕ) → ys ≡ zs → length ys ≡ k → put_mid a k xs ys ≡ overlay xs a zs
+pub overlay_part : {A : Type 0} → (a k : ℕ) (xs ys zs : List A) → ys ≡ zs → length ys ≡ k → put_mid a k xs ys ≡ overlay xs a zs
 unfolding overlay
 overlay_part a k xs ys zs e h = rw (drop-drop, append_assoc, ← e, h)
 
 -- nothing laid changes nothing
-pub overlay-none : (xs : List ℕ) (at : ℕ) → overlay xs at [] ≡ xs
+pub overlay-none : {A : Type 0} → (xs : List A) (at : ℕ) → overlay xs at [] ≡ xs
 unfolding overlay
 overlay-none xs at = rw (append-nil, add-zero) (take-append-drop at xs)
 
 -- what has room is laid whole
-pub laid-whole : (xs : List ℕ) (at : ℕ) (ys : List ℕ) → at + length ys ≤ length xs → laid xs at ys ≡ overlay xs at ys
+pub laid-whole : {A : Type 0} → (xs : List A) (at : ℕ) (ys : List A) → at + length ys ≤ length xs → laid xs at ys ≡ overlay xs at ys
 unfolding laid
 laid-whole xs at ys h =
     let k : length ys ≤ length xs - at = omega arith in
     rw (take_all (length xs - at) ys k)
 
 -- behind the end nothing is laid
-pub laid-past : (xs : List ℕ) (at : ℕ) (ys : List ℕ) → length xs ≤ at → laid xs at ys ≡ xs
+pub laid-past : {A : Type 0} → (xs : List A) (at : ℕ) (ys : List A) → length xs ≤ at → laid xs at ys ≡ xs
 unfolding laid
 laid-past xs at ys h =
     let k : length xs - at ≡ 0 = omega arith in
     rw k (overlay-none xs at)
 
-pub laid_none : (xs : List ℕ) (at : ℕ) → laid xs at [] ≡ xs
+pub laid_none : {A : Type 0} → (xs : List A) (at : ℕ) → laid xs at [] ≡ xs
 unfolding laid
 laid_none xs at = rw (take-nil (length xs - at)) (overlay-none xs at)
 
-pub length-laid : (xs : List ℕ) (at : ℕ) (ys : List ℕ) → length (laid xs at ys) ≡ length xs
+pub length-laid : {A : Type 0} → (xs : List A) (at : ℕ) (ys : List A) → length (laid xs at ys) ≡ length xs
 unfolding laid
 length-laid xs at ys = step (leb at (length xs)) refl
   where
@@ -180,7 +158,7 @@ length-laid xs at ys = step (leb at (length xs)) refl
         ap length (laid-past xs at ys (omega arith))
 
 -- a second list laid just behind the first is the two laid as one
-pub laid-behind : (xs : List ℕ) (at : ℕ) (ys zs : List ℕ) → at + length ys ≤ length xs
+pub laid-behind : {A : Type 0} → (xs : List A) (at : ℕ) (ys zs : List A) → at + length ys ≤ length xs
     → laid (laid xs at ys) (at + length ys) zs ≡ laid xs at (ys ++ zs)
 unfolding laid
 laid-behind xs at ys zs h =
@@ -194,20 +172,23 @@ laid-behind xs at ys zs h =
     )
 
 -- .. and is not laid at all where the first reaches the end
-pub laid-cut : (xs : List ℕ) (at : ℕ) (ys zs : List ℕ) → length xs ≤ at + length ys → laid xs at (ys ++ zs) ≡ laid xs at ys
+pub laid-cut : {A : Type 0} → (xs : List A) (at : ℕ) (ys zs : List A) → length xs ≤ at + length ys → laid xs at (ys ++ zs) ≡ laid xs at ys
 unfolding laid
 laid-cut xs at ys zs h =
     let d : length xs - at ≤ length ys = omega arith in
     rw (take-append-le (length xs - at) ys zs d)
 
 -- the first min of both lengths is the same part as the room's
-take_min : (k : ℕ) (ys : List ℕ) → take (min (length ys) k) ys ≡ take k ys
+take_min : {A : Type 0} → (k : ℕ) (ys : List A) → take (min (length ys) k) ys ≡ take k ys
 take_min zero ys = rw min-zero
 take_min (suc k) [] = simp unary_clauses
 take_min (suc k) (y ∷ ys) = simp unary_clauses (ap (◌∷◌ y) (take_min k ys))
 
 -- laying by that count
-pub laid-least : (xs : List ℕ) (at : ℕ) (ys zs : List ℕ) (n : ℕ) → n ≡ min (length ys) (length xs - at)
+pub laid-least : {A : Type 0} → (xs : List A) (at : ℕ) (ys zs : List A) (n : ℕ) → n ≡ min (length ys) (length xs - at)
     → zs ≡ overlay xs at (take n ys) → zs ≡ laid xs at ys
 unfolding laid
 laid-least xs at ys zs n m e = rw (e, m, take_min)
+
+-- what lays a part of one list over another
+pub ruleset laying = (laid-least, laid-past, overlay_part)

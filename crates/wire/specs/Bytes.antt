@@ -47,11 +47,11 @@ unfoldable pub filled : List ℕ → ℕ → ℕ → List ℕ → List ℕ
 filled s i n buf = span s i n ++ drop n buf
 
 -- xs with ys in place of what stood there from at on, where ys lies within
-unfoldable pub overlay : List ℕ → ℕ → List ℕ → List ℕ
+unfoldable pub overlay : {A : Type 0} → List A → ℕ → List A → List A
 overlay xs at ys = take at xs ++ ys ++ drop (at + length ys) xs
 
 -- .. as much of ys as lies within
-unfoldable pub laid : List ℕ → ℕ → List ℕ → List ℕ
+unfoldable pub laid : {A : Type 0} → List A → ℕ → List A → List A
 laid xs at ys = overlay xs at (take (length xs - at) ys)
 
 -- a test as a number: 1 where it holds, else 0

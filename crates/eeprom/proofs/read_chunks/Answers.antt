@@ -1,10 +1,11 @@
 -- `eeprom::read_chunks` fills the buffer chunk by chunk: after each turn its first `done` bytes are the image's.
 use borrow.Author.Rules.{rules}
-use mathlib.Core.Path.{◌≡◌}
-use native.Mathlib.Omega.{arith}
+use native.Mathlib.Nat.{le_of_eq}
+use mathlib.Core.Path.{◌≡◌, refl}
+use lib.ListN.{length}
 use Rattle.wire.proofs.Laws.{filled_none}
 use Rattle.wire.proofs.Stretch.{filled_next}
-use Rattle.eeprom.proofs.Chunks.{width-least}
+use Rattle.eeprom.proofs.Chunks.{width-least, filled_all}
 use Rattle.eeprom.proofs.read_chunks.Goals as goal
 
 pub loop-done-init : goal.loop-done-init
@@ -19,5 +20,7 @@ loop-done-preserved c =
 
 pub returns : goal.returns
 returns c =
-    let e : c.loop-done.done ≡ c.args.n = omega arith in
-    cc
+    let l = c.loop-done in
+    let a = c.args in
+    let e : l.done ≡ length a.buf.now = search rules in
+    rw (l.invariant.4, e) (filled_all a.image.now a.pos _ a.buf.now (le_of_eq refl))

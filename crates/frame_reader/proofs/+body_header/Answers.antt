@@ -3,46 +3,49 @@ use Rattle.std.proofs.Common.{◌≡◌, ◌+◌, ◌-◌, ◌≤◌, ◌<◌, t
 use Rattle.pdu.specs.Read.{pdu_end, rightly}
 use Rattle.pdu.proofs.Laws.{rightly-fits, body_wrong, body-last, body_more, places-short, places_step}
 use Rattle.frame_reader.proofs.Laws.{walk_bad, walk_last, walk_behind, walk_more}
+use Rattle.frame_reader.proofs.+body_header.Goals.{body-then-next-end, body-else-next-end+in_ok-count}
 use Rattle.frame_reader.proofs.+body_header.Goals as goal
 
-pub body-returns-then-next-end : goal.body-returns-then-next-end
-body-returns-then-next-end t c = λ f h.
+pub body-returns-then-not-ends_rightly : goal.body-returns-then-not-ends_rightly
+body-returns-then-not-ends_rightly t c = λ f h.
     let a = c.args in
-    let r : rightly a.from a.end a.flags ≡ true = sym c.ends_rightly.ensures ∙ c.if-ends_rightly.true in
-    rw (body-last _ a.from a.end a.flags r c.if-next-end.true) (walk_last a.k a.out.now a.from)
+    let r : rightly a.from a.end a.flags ≡ false = cc in
+    rw (body_wrong _ a.from a.end a.flags r) (walk_bad a.k a.out.now)
 
-pub body-header-rest-requires : goal.body-header-rest-requires
-body-header-rest-requires t c =
+pub body-header-requires : goal.body-header-requires
+body-header-requires t c =
     let a = c.args in
-    let r : rightly a.from a.end a.flags ≡ true = sym c.ends_rightly.ensures ∙ c.if-ends_rightly.true in
+    let r : rightly a.from a.end a.flags ≡ true = cc in
     let le : pdu_end a.from a.flags ≤ a.end = rightly-fits a.from a.end a.flags r in
     search rules
 
-pub body-returns-in-Bad : goal.body-returns-in-Bad
-body-returns-in-Bad t c = λ f h.
+pub body-returns-in_err-count : goal.body-returns-in_err-count
+body-returns-in_err-count t c = λ f h.
     let a = c.args in
-    let x = c.header-rest in
-    let r : rightly a.from a.end a.flags ≡ true = sym c.ends_rightly.ensures ∙ c.if-ends_rightly.true in
-    let less : a.end - pdu_end a.from a.flags ≤ f = omega arith in
-    let y = x.ensures f less in
-    rw (body_more _ a.from a.end a.flags r c.if-next-end.false)
-    (walk_behind _ a.k a.from x.result a.out.now x.new.out c.in-Bad.is y.0 y.1)
+    let x = c.header in
+    let r : rightly a.from a.end a.flags ≡ true = cc in
+    let ne : pdu_end a.from a.flags ≡ a.end → ⊥ = rw c.from.ensures at c.if-next-end.false in
+    let less : a.end - (a.from + (12 + c.from.result)) ≤ f = omega arith in
+    let y = rw c.from.ensures at (x.ensures f less) in
+    let e = walk_behind _ a.k a.from x.result a.out.now x.new.out c.in_err-count.was y.0 y.1 in
+    rw (body_more _ a.from a.end a.flags r ne) (c.from_residual.ensures ∙ sym c.in_err-count.was ∙ e.0, e.1)
 
-pub body-returns-in-Good : goal.body-returns-in-Good
-body-returns-in-Good t c = λ f h.
+pub body-returns : goal.body-returns
+body-returns t c = λ f h.
     let a = c.args in
-    let x = c.header-rest in
-    let r : rightly a.from a.end a.flags ≡ true = sym c.ends_rightly.ensures ∙ c.if-ends_rightly.true in
-    let less : a.end - pdu_end a.from a.flags ≤ f = omega arith in
-    let y = x.ensures f less in
-    rw (body_more _ a.from a.end a.flags r c.if-next-end.false)
-    (walk_more _ a.k a.from _ x.result a.out.now x.new.out c.in-Good.is y.0 y.1)
-
-pub body-returns-else-ends_rightly : goal.body-returns-else-ends_rightly
-body-returns-else-ends_rightly t c = λ f h.
-    let a = c.args in
-    let r : rightly a.from a.end a.flags ≡ false = sym c.ends_rightly.ensures ∙ c.if-ends_rightly.false in
-    rw (body_wrong _ a.from a.end a.flags r) (walk_bad a.k a.out.now)
+    let r : rightly a.from a.end a.flags ≡ true = cc in
+    elim c.if-next-end.branch [
+      | body-then-next-end w ↦
+          let last : pdu_end a.from a.flags ≡ a.end = rw c.from.ensures at w.if-next-end.true in
+          rw (body-last _ a.from a.end a.flags r last, w.out-is, w.count-is) (walk_last a.k a.out.now a.from)
+      | body-else-next-end+in_ok-count w ↦
+          let x = w.header in
+          let ne : pdu_end a.from a.flags ≡ a.end → ⊥ = rw c.from.ensures at w.if-next-end.false in
+          let less : a.end - (a.from + (12 + c.from.result)) ≤ f = omega arith in
+          let y = rw c.from.ensures at (x.ensures f less) in
+          let e = walk_more _ a.k a.from _ x.result a.out.now x.new.out w.in_ok-count.was y.0 y.1 in
+          rw (body_more _ a.from a.end a.flags r ne, w.out-is, w.count-is) (sym w.in_ok-count.was ∙ e.0, e.1)
+    ]
 
 pub header-returns-then-end-at-lt-PDU_OVERHEAD_BYTES : goal.header-returns-then-end-at-lt-PDU_OVERHEAD_BYTES
 header-returns-then-end-at-lt-PDU_OVERHEAD_BYTES t c = λ f h.

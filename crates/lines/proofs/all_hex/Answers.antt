@@ -1,17 +1,23 @@
--- `lines::all_hex` tests each byte: the rest is hex exactly if the whole is.
-use mathlib.Core.Path.{refl, ◌∙◌}
-use native.Mathlib.Omega.{arith}
-use Rattle.lines.proofs.Laws.{hex_more, hex_bad, hex_end}
+-- `lines::all_hex` tests each byte.
+use mathlib.Core.Path.{◌∙◌}
+use borrow.Author.Rules.{rules}
+use borrow.Author.Tests.{tests}
+use Rattle.std.specs.Prelude.{is_some}
+use Rattle.std.proofs.lemmas.Iterator.{YieldsList-from_slice}
+use Rattle.std.proofs.lemmas.Iterator.Search.{all_from_yields_List}
+use Rattle.lines.specs.Numbers.{below}
+use Rattle.lines.specs.Pairs.{nibble_of}
+use Rattle.lines.proofs.Laws.{hex_each}
 use Rattle.lines.proofs.all_hex.Goals as goal
 
-pub loop-i-init : goal.loop-i-init
-loop-i-init c = refl
-
-pub returns-then-nibble-gt15 : goal.returns-then-nibble-gt15
-returns-then-nibble-gt15 c = hex_bad _ _ c.loop-i-test.true (omega arith) ∙ c.loop-i.invariant
-
-pub loop-i-preserved : goal.loop-i-preserved
-loop-i-preserved c = hex_more _ _ c.loop-i-test.true (omega arith) ∙ c.loop-i.invariant
-
 pub returns : goal.returns
-returns c = hex_end _ _ c.loop-i-test.false ∙ c.loop-i.invariant
+returns c =
+    all_from_yields_List
+    (λ b. is_some (below 16 (nibble_of b)))
+    _
+    _
+    c.all.result
+    c.all.ensures.ran
+    (YieldsList-from_slice c.args.word.now cc)
+    (λ x b q k. search (rules, tests))
+    ∙ hex_each c.args.word.now

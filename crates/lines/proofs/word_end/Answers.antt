@@ -1,16 +1,14 @@
--- `lines::word_end` goes on to the first space: the word ends where it would from each place passed.
-use mathlib.Core.Path.{refl, ◌∙◌}
-use Rattle.lines.proofs.Laws.{end_space, end_next, end_out}
+-- `lines::word_end` goes on from `from` to the end of the word there; past the line it stays.
+use native.Mathlib.Omega.{arith}
+use mathlib.Core.Logic.{inl, inr}
+use Rattle.lines.proofs.Laws.{word-within, end_in, end_past}
 use Rattle.lines.proofs.word_end.Goals as goal
 
-pub loop-i-init : goal.loop-i-init
-loop-i-init c = refl
+pub overflow_add-result : goal.overflow_add-result
+overflow_add-result c = omega (arith, c.in-Some.ensures.lookup.0, word-within c.in-Some.rest.now)
 
-pub returns-then-line-i-eq32 : goal.returns-then-line-i-eq32
-returns-then-line-i-eq32 c = end_space _ _ c.loop-i-test.true c.if-line-i-eq32.true ∙ c.loop-i.invariant
+pub returns-in-Some : goal.returns-in-Some
+returns-in-Some c = end_in c.args.line.now c.in-Some.rest.now _ _ c.in-Some.ensures.lookup.0.2 c.word_length.ensures
 
-pub loop-i-preserved : goal.loop-i-preserved
-loop-i-preserved c = end_next _ _ c.loop-i-test.true c.if-line-i-eq32.false ∙ c.loop-i.invariant
-
-pub returns : goal.returns
-returns c = end_out _ _ c.loop-i-test.false ∙ c.loop-i.invariant
+pub returns-in-None : goal.returns-in-None
+returns-in-None c = elim c.in-None.ensures.lookup.0 [ inl h ↦ end_past _ _ h | inr h ↦ absurd (omega arith) ]

@@ -1,11 +1,8 @@
--- `bits` adds entry by entry: after k turns the sum is that of the first k, at most 255 each.
-use Prim.Native.Nat.{◌≤◌, ◌-◌, ◌*◌}
+-- `bits` adds entry by entry: before entry k the sum is that of the first k, at most 255 each.
+use Prim.Native.Nat.{◌≤◌, ◌*◌}
 use mathlib.Core.Path.{◌≡◌}
 use Rattle.lists.specs.Pdos.{sum_to, entry_bits}
 use Rattle.lists.proofs.bits.Given as goal
 
 abbrev pub invariant-loop-k : goal.invariant-loop-k
-invariant-loop-k l = (l.sum ≡ sum_to (entry_bits l.image l.at) l.k) × (l.sum ≤ 255 * l.k) × (l.k ≤ l.n)
-
-abbrev pub decreases-loop-k : goal.decreases-loop-k
-decreases-loop-k l = l.n - l.k
+invariant-loop-k l = (l.sum ≡ sum_to (entry_bits l.image l.at) l.k) × (l.sum ≤ 255 * l.k)

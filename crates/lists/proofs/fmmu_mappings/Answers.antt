@@ -1,33 +1,13 @@
--- `fmmu_mappings` lists the range that the search found.
-use mathlib.Core.Path.{ap, sym, ◌∙◌}
-use native.Mathlib.Omega.{arith}
-use Rattle.category.specs.Answers.{said_found}
-use Rattle.category.proofs.First.{found_within}
-use Rattle.lists.specs.Records.{back}
-use Rattle.lists.specs.Fmmus.{fmmu_most, ex_of}
-use Rattle.lists.specs.Answers.{back_fmmus}
-use Rattle.lists.proofs.Laws.{refused, empty, in_at, in_absent, in_no}
+-- `fmmu_mappings` gives what was read into blank places.
+use mathlib.Core.Path.{refl}
+use Rattle.lists.specs.Fmmus.{ex_of}
+use Rattle.lists.proofs.Laws.{listed, unlisted}
 use Rattle.lists.proofs.fmmu_mappings.Goals as goal
 
-pub fmmus_in-requires : goal.fmmus_in-requires
-fmmus_in-requires c =
-    let w = found_within _ _ _ _ (ap said_found (sym c.in-At.is) ∙ c.category.ensures) in
-    (omega (arith, w.0, w.1), omega (arith, w.0, w.1))
-
-pub returns-in-At : goal.returns-in-At
+pub returns-in_err-count : goal.returns-in_err-count
 unfolding ex_of
-returns-in-At c =
-    let f = ap said_found (sym c.in-At.is) ∙ c.category.ensures in
-    c.fmmus_in.ensures ∙ ap (back 0 fmmu_most) (in_at _ _ _ _ f)
+returns-in_err-count c = unlisted _ _ _ _ _ _ _ c.in_err-count.ensures.said c.from_residual.ensures.1
 
-pub returns-in-Absent : goal.returns-in-Absent
+pub returns : goal.returns
 unfolding ex_of
-returns-in-Absent c =
-    let f = ap said_found (sym c.in-Absent.is) ∙ c.category.ensures in
-    ap back_fmmus c.no_fmmus.ensures ∙ empty _ _ _ (in_absent _ _ f)
-
-pub returns-in-No : goal.returns-in-No
-unfolding ex_of
-returns-in-No c =
-    let f = ap said_found (sym c.in-No.is) ∙ c.category.ensures in
-    ap back_fmmus c.no_fmmus-in-No.ensures ∙ refused _ _ _ _ _ (in_no _ _ _ _ f)
+returns c = listed _ _ _ _ _ _ _ c.in_ok-count.ensures.said c.read_records.ensures.lent refl

@@ -1,33 +1,26 @@
--- `fmmus` lists the range that the search found.
-use mathlib.Core.Path.{ap, sym, ◌∙◌}
-use native.Mathlib.Omega.{arith}
-use Rattle.category.specs.Answers.{said_found}
-use Rattle.category.proofs.First.{found_within}
+-- `fmmus` gives what was read into blank places, of the category's first 16 bytes.
+use mathlib.Core.Path.{refl, ◌∙◌, ap}
+use mathlib.Core.List.{[]}
+use Rattle.std.specs.Prelude.{Err}
+use Rattle.lists.specs.Fmmus.{usages_of, fmmu_most}
 use Rattle.lists.specs.Records.{back}
-use Rattle.lists.specs.Fmmus.{fmmu_most, usages_of}
-use Rattle.lists.specs.Answers.{back_fmmus}
-use Rattle.lists.proofs.Laws.{refused, empty, in_at, in_absent, in_no}
+use Rattle.lists.proofs.Laws.{listed, unlisted, unsought}
+use Rattle.lists.proofs.Usages.{usages-cut}
 use Rattle.lists.proofs.fmmus.Goals as goal
 
-pub usages_in-requires : goal.usages_in-requires
-usages_in-requires c =
-    let w = found_within _ _ _ _ (ap said_found (sym c.in-At.is) ∙ c.category.ensures) in
-    (omega (arith, w.0, w.1), omega (arith, w.0, w.1))
-
-pub returns-in-At : goal.returns-in-At
+pub returns-in_err-category : goal.returns-in_err-category
 unfolding usages_of
-returns-in-At c =
-    let f = ap said_found (sym c.in-At.is) ∙ c.category.ensures in
-    c.usages_in.ensures ∙ ap (back 0 fmmu_most) (in_at _ _ _ _ f)
+returns-in_err-category c =
+    unlisted _ _ _ _ _ _ _ (unsought _ (λ p end. []) _ (Err c.in_err-category.field-0.0) _ [] c.in_err-category.ensures refl).0 c.from_residual.ensures.1
 
-pub returns-in-Absent : goal.returns-in-Absent
+pub returns-in_err-count : goal.returns-in_err-count
 unfolding usages_of
-returns-in-Absent c =
-    let f = ap said_found (sym c.in-Absent.is) ∙ c.category.ensures in
-    ap back_fmmus c.no_fmmus.ensures ∙ empty _ _ _ (in_absent _ _ f)
+returns-in_err-count c =
+    let u = rw c.in_ok-category.ensures at (usages-cut c.args.image.now _ _ c.map-found.ensures.cases) in
+    unlisted _ _ _ _ _ _ _ c.in_err-count.ensures.said c.from_residual-in_err-count.ensures.1 ∙ ap (back 0 fmmu_most) u
 
-pub returns-in-No : goal.returns-in-No
+pub returns : goal.returns
 unfolding usages_of
-returns-in-No c =
-    let f = ap said_found (sym c.in-No.is) ∙ c.category.ensures in
-    ap back_fmmus c.no_fmmus-in-No.ensures ∙ refused _ _ _ _ _ (in_no _ _ _ _ f)
+returns c =
+    let u = rw c.in_ok-category.ensures at (usages-cut c.args.image.now _ _ c.map-found.ensures.cases) in
+    listed _ _ _ _ _ _ _ c.in_ok-count.ensures.said c.read_found.ensures.lent refl ∙ ap (back 0 fmmu_most) u

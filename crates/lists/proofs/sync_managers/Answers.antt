@@ -1,33 +1,13 @@
--- `sync_managers` lists the range that the search found.
-use mathlib.Core.Path.{ap, sym, ◌∙◌}
-use native.Mathlib.Omega.{arith}
-use Rattle.category.specs.Answers.{said_found}
-use Rattle.category.proofs.First.{found_within}
-use Rattle.lists.specs.Records.{back}
-use Rattle.lists.specs.SyncManagers.{sm_zero, sm_most, sms_of}
-use Rattle.lists.specs.Answers.{back_sms}
-use Rattle.lists.proofs.Laws.{refused, empty, in_at, in_absent, in_no}
+-- `sync_managers` gives what was read into blank places.
+use Rattle.lists.specs.SyncManagers.{sms_of}
+use Rattle.lists.proofs.Laws.{listed, unlisted}
+use Rattle.lists.proofs.Blank.{sm_blank}
 use Rattle.lists.proofs.sync_managers.Goals as goal
 
-pub sms_in-requires : goal.sms_in-requires
-sms_in-requires c =
-    let w = found_within _ _ _ _ (ap said_found (sym c.in-At.is) ∙ c.category.ensures) in
-    (omega (arith, w.0, w.1), omega (arith, w.0, w.1))
-
-pub returns-in-At : goal.returns-in-At
+pub returns-in_err-count : goal.returns-in_err-count
 unfolding sms_of
-returns-in-At c =
-    let f = ap said_found (sym c.in-At.is) ∙ c.category.ensures in
-    c.sms_in.ensures ∙ ap (back sm_zero sm_most) (in_at _ _ _ _ f)
+returns-in_err-count c = unlisted _ _ _ _ _ _ _ c.in_err-count.ensures.said c.from_residual.ensures.1
 
-pub returns-in-Absent : goal.returns-in-Absent
+pub returns : goal.returns
 unfolding sms_of
-returns-in-Absent c =
-    let f = ap said_found (sym c.in-Absent.is) ∙ c.category.ensures in
-    ap back_sms c.no_sms.ensures ∙ empty _ _ _ (in_absent _ _ f)
-
-pub returns-in-No : goal.returns-in-No
-unfolding sms_of
-returns-in-No c =
-    let f = ap said_found (sym c.in-No.is) ∙ c.category.ensures in
-    ap back_sms c.no_sms-in-No.ensures ∙ refused _ _ _ _ _ (in_no _ _ _ _ f)
+returns c = listed _ _ _ _ _ _ _ c.in_ok-count.ensures.said c.read_records.ensures.lent (sm_blank _ c.default-items.ensures)

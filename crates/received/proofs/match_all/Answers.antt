@@ -1,29 +1,43 @@
 -- `received::match_all`: those found so far, before what the rest gives, are the whole; a fault, or the end, is what the walk then says.
-use Rattle.std.proofs.Common.{arith}
-use Rattle.received.proofs.Laws.{right-fits, next-is, going_next, going_wrong, going_spare, going_done}
+use Rattle.std.proofs.Common.{◌≡◌, ◌+◌, ◌∙◌, sym, ap, refl, ℕ, length, arith}
+use Rattle.std.proofs.lemmas.Result.{err_from_is_err_and}
+use Rattle.received.specs.Answers.{padded, unused}
+use Rattle.received.proofs.Blank.{pdu_blank}
+use Rattle.received.proofs.Laws.{handle_here, handles_over, right-fits, next-is, going_start, going_next, going_wrong, going_missing, going_done}
 use Rattle.received.proofs.match_all.Goals as goal
 
-pub returns-in-Wrong : goal.returns-in-Wrong
-returns-in-Wrong c = going_wrong c.loop-at.invariant.2 c.judge-v.result c.without.result _ c.loop-at-test.true c.judge-v.ensures c.in-Wrong.is c.without.ensures
+pub loop-k-init : goal.loop-k-init
+unfolding padded unused
+loop-k-init c = (omega arith, omega arith, going_start _ _ _ _ (rw (pdu_blank _ c.default-pdus.ensures) refl))
+
+pub returns-in_err-judge : goal.returns-in_err-judge
+returns-in_err-judge c =
+    let x = c.loop-k in
+    let p = err_from_is_err_and c.from_residual.result c.from_residual.ensures.1 in
+    rw (p.1, p.2) (sym (going_wrong x.invariant.2 _ (handle_here _ x.k _ c.loop-k-test.true) _ (sym c.judge.ensures ∙ c.in_err-judge.was)))
 
 pub bounds-pdus-k : goal.bounds-pdus-k
 bounds-pdus-k c =
-    let x = c.loop-at in
-    let f = right-fits _ _ x.at _ x.k _ c.judge-v.ensures c.in_default.is in
+    let x = c.loop-k in
+    let f = right-fits _ _ x.at _ x.k (sym c.judge.ensures ∙ c.in_ok-judge.was) in
     omega arith
 
-pub loop-at-preserved : goal.loop-at-preserved
-loop-at-preserved c =
-    let x = c.loop-at in
-    let v = c.judge-v in
-    let p = c.came_back-p in
-    let right = c.in_default.is in
-    let f = right-fits _ _ x.at _ x.k _ v.ensures right in
-    let n = next-is _ x.at p.result p.ensures in
-    (omega arith, omega arith, going_next x.invariant.2 v.result p.result _ (omega arith) v.ensures right p.ensures n)
+pub loop-k-preserved : goal.loop-k-preserved
+loop-k-preserved c =
+    let x = c.loop-k in
+    let right = sym c.judge.ensures ∙ c.in_ok-judge.was in
+    let f = right-fits _ _ x.at _ x.k right in
+    let n = ap (λ (z : ℕ). x.at + (12 + z)) c.from.ensures ∙ next-is _ x.at c.came_back-pdu.result c.came_back-pdu.ensures in
+    (omega arith, omega arith, going_next x.invariant.2 _ (handle_here _ x.k _ c.loop-k-test.true) c.came_back-pdu.result _ (omega arith) right c.came_back-pdu.ensures n)
 
-pub returns-then-k-handles : goal.returns-then-k-handles
-returns-then-k-handles c = going_spare c.loop-at.invariant.2 c.without-then-k-handles.result (omega arith) (omega arith) c.without-then-k-handles.ensures
+pub returns-then-at-end : goal.returns-then-at-end
+returns-then-at-end c =
+    let x = c.loop-k in
+    let e : x.k ≡ length c.args.handles.now = omega arith in
+    rw (← e) (sym (going_missing x.invariant.2 (handles_over _ x.k c.loop-k-test.false) c.if-at-end.true))
 
 pub returns : goal.returns
-returns c = going_done c.loop-at.invariant.2 (omega arith) (omega arith)
+returns c =
+    let x = c.loop-k in
+    let e : x.k ≡ length c.args.handles.now = omega arith in
+    rw (← e) (sym (going_done x.invariant.2 (handles_over _ x.k c.loop-k-test.false) (omega arith)))

@@ -1,21 +1,15 @@
 -- `bytes_summed` goes byte by byte: after i turns the first i are the image's.
 use mathlib.Core.Path.{◌≡◌}
 use native.Mathlib.Omega.{arith}
-use Rattle.wire.proofs.Laws.{filled_none}
 use Rattle.setup.proofs.Laws.{front-more, front_all}
 use borrow.Author.Rules.{rules}
 use Rattle.setup.proofs.bytes_summed.Goals as goal
 
-pub loop-i-init : goal.loop-i-init
-loop-i-init c = (search rules, search rules, search rules, filled_none _ _ _)
-
 pub loop-i-preserved : goal.loop-i-preserved
-loop-i-preserved c =
-    let l = c.loop-i in
-    (search rules, search rules, search rules, rw (l.invariant.3, c.byte_of.ensures) (front-more _ _ _ (omega arith)))
+loop-i-preserved c = (search rules, search rules, rw (c.loop-i.invariant.2, c.byte_of.ensures) (front-more _ _ _ (omega arith)))
 
 pub returns : goal.returns
 returns c =
     let l = c.loop-i in
     let e : l.i ≡ 14 = omega arith in
-    rw (l.invariant.3, e) (front_all _ _ l.invariant.2)
+    rw (l.invariant.2, e) (front_all _ _ l.invariant.1)

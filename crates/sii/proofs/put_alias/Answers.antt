@@ -13,4 +13,4 @@ unfolding with_alias
 returns c =
     let image = c.args.image.now in
     let h : past configured_station_alias ≤ length image = omega arith in
-    c.lay.ensures ∙ laid-whole image (start configured_station_alias) _ h
+    c.lay.ensures ∙ rw c.to_le_bytes.ensures (laid-whole image (start configured_station_alias) _ h)

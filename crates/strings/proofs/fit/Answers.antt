@@ -6,8 +6,8 @@ use Rattle.strings.proofs.fit.Goals as goal
 pub returns-then-room-n : goal.returns-then-room-n
 returns-then-room-n c image f = fitted-long image _ _ _ _ c.if-room-n.true
 
-pub returns-then-n-remaining : goal.returns-then-n-remaining
-returns-then-n-remaining c image f = fitted-at image _ _ _ _ f c.if-room-n.false (omega (arith, c.if-n-remaining.true, c.remaining.ensures))
+pub returns-then-from-saturating_sub : goal.returns-then-from-saturating_sub
+returns-then-from-saturating_sub c image f = fitted-at image _ _ _ _ f c.if-room-n.false (omega (arith, c.if-from-saturating_sub.true, c.saturating_sub.ensures, c.from.ensures))
 
-pub returns-else-n-remaining : goal.returns-else-n-remaining
-returns-else-n-remaining c image f = fitted-cut image _ _ _ _ f c.if-room-n.false (omega (arith, c.if-n-remaining.false, c.remaining.ensures))
+pub returns-else-from-saturating_sub : goal.returns-else-from-saturating_sub
+returns-else-from-saturating_sub c image f = fitted-cut image _ _ _ _ f c.if-room-n.false (omega (arith, c.if-from-saturating_sub.false, c.saturating_sub.ensures, c.from.ensures))

@@ -1,13 +1,14 @@
--- `Range::read` reads the smaller of what is asked for and what is left.
-use Rattle.eeprom.specs.Range.{read_said, read_buf}
+-- `Range::read` fills as much of the buffer as it takes.
+use borrow.Author.Rules.{rules}
+use Prim.Native.Nat.{◌≤◌}
+use lib.ListN.{length}
+use Rattle.std.proofs.lemmas.List.{length-take-le}
+use Rattle.wire.specs.Bytes.{filled}
+use Rattle.eeprom.specs.Range.{read_buf}
 use Rattle.eeprom.proofs.Range.read.Goals as goal
 
-pub returns-then-sound : goal.returns-then-sound
-unfolding read_said read_buf
-returns-then-sound c =
-    let t = c in
-    let d = c in record { said = simp (← t.sound.ensures, t.if-sound.true, ← d.left.ensures, ← d.lesser-n.ensures); lent = simp (← t.sound.ensures, t.if-sound.true, ← d.left.ensures, ← d.lesser-n.ensures) c.read_chunks.ensures }
-
-pub returns-else-sound : goal.returns-else-sound
-unfolding read_said read_buf
-returns-else-sound c = record { said = simp (← c.sound.ensures, c.if-sound.false); lent = simp (← c.sound.ensures, c.if-sound.false) }
+pub returns-clause-lent : goal.returns-clause-lent
+unfolding read_buf filled
+returns-clause-lent c =
+    let h : c.min-n.result ≤ length c.args.buf.now = search rules in
+    rw (c.in_ok-checked.ensures, c.read_chunks.ensures, length-take-le _ _ h, c.min-n.ensures, c.left.ensures)

@@ -6,16 +6,16 @@ use Rattle.eeprom.specs.Answers.{said_reading}
 use Rattle.eeprom.proofs.Laws.{exact_reads, told, exact_stands}
 use Rattle.eeprom.proofs.Range.read_exact.Goals as goal
 
-pub returns-in-Took : goal.returns-in-Took
+pub returns-in-Ok : goal.returns-in-Ok
 unfolding on3 told
-returns-in-Took c =
+returns-in-Ok c =
     let r = c.read.ensures in
     let a = c.args in
-    let s = ap said_reading (sym c.in-Took.is) ∙ r.said in record { said = rw (exact_reads a.image.now a.self.byte_pos a.self.end (length a.buf.now), ← s) c.all_of.ensures; stands = ap (told a.self) s ∙ sym (exact_stands a.image.now a.self (length a.buf.now)); lent = r.lent }
+    let s = ap said_reading (sym c.in-Ok.is) ∙ r.said in record { said = rw (exact_reads a.image.now a.self.byte_pos a.self.end (length a.buf.now), ← s) c.all_of.ensures; stands = ap (told a.self) s ∙ sym (exact_stands a.image.now a.self (length a.buf.now)); lent = r.lent }
 
-pub returns-in-No : goal.returns-in-No
+pub returns-in-Err : goal.returns-in-Err
 unfolding on3 told
-returns-in-No c =
+returns-in-Err c =
     let r = c.read.ensures in
     let a = c.args in
-    let s = ap said_reading (sym c.in-No.is) ∙ r.said in record { said = rw (exact_reads a.image.now a.self.byte_pos a.self.end (length a.buf.now), ← s); stands = ap (told a.self) s ∙ sym (exact_stands a.image.now a.self (length a.buf.now)); lent = r.lent }
+    let s = ap said_reading (sym c.in-Err.is) ∙ r.said in record { said = rw (exact_reads a.image.now a.self.byte_pos a.self.end (length a.buf.now), ← s); stands = ap (told a.self) s ∙ sym (exact_stands a.image.now a.self (length a.buf.now)); lent = r.lent }

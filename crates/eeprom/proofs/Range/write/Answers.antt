@@ -1,5 +1,4 @@
 -- `Range::write` tests its arguments and calls `write_words`.
-use mathlib.Core.Path.{sym, ◌∙◌}
 use Rattle.eeprom.specs.Range.{write_said, write_pos, write_image}
 use Rattle.eeprom.proofs.Laws.{bounds_of, fine-bounds}
 use Rattle.eeprom.proofs.Range.write.Goals as goal
@@ -7,14 +6,16 @@ use Rattle.eeprom.proofs.Range.write.Goals as goal
 pub write_words-requires : goal.write_words-requires
 write_words-requires c =
     let a = c.args in
-    (bounds_of _ _ (fine-bounds a.image.now a.self.byte_pos a.self.end (sym c.sound.ensures ∙ c.if-sound.true))).ends
+    (bounds_of _ _ (fine-bounds a.image.now a.self.byte_pos a.self.end c.in-Ok.ensures)).ends
 
-pub returns-then-sound : goal.returns-then-sound
-unfolding write_said write_pos write_image
-returns-then-sound c =
-    let t = c in
-    let w = c.write_words.ensures in record { said = simp (← t.sound.ensures, t.if-sound.true) w.said; stands = simp (← t.sound.ensures, t.if-sound.true) (λ i. record { byte_pos = w.stands.0 i; end = w.stands.1 i }); lent = simp (← t.sound.ensures, t.if-sound.true) w.lent }
+pub returns-in-Ok-clause-said : goal.returns-in-Ok-clause-said
+unfolding write_said
+returns-in-Ok-clause-said c = rw (c.in-Ok.ensures) c.write_words.ensures.said
 
-pub returns-else-sound : goal.returns-else-sound
-unfolding write_said write_pos write_image
-returns-else-sound c = record { said = simp (← c.sound.ensures, c.if-sound.false); stands = simp (← c.sound.ensures, c.if-sound.false); lent = simp (← c.sound.ensures, c.if-sound.false) }
+pub returns-in-Ok-clause-stands : goal.returns-in-Ok-clause-stands
+unfolding write_pos
+returns-in-Ok-clause-stands c = rw (c.in-Ok.ensures) c.write_words.ensures.stands
+
+pub returns-in-Ok-clause-lent : goal.returns-in-Ok-clause-lent
+unfolding write_image
+returns-in-Ok-clause-lent c = rw (c.in-Ok.ensures) c.write_words.ensures.lent

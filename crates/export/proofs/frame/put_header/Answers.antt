@@ -2,14 +2,11 @@
 use Rattle.export.specs.Told.{bytes_over}
 use Rattle.export.proofs.frame.put_header.Goals as goal
 
-pub returns-in-Header-clause-lent : goal.returns-in-Header-clause-lent
+pub returns-in-Ok-clause-lent : goal.returns-in-Ok-clause-lent
 unfolding bytes_over
-returns-in-Header-clause-lent c =
-    let h = c.frame_header-h.ensures in
-    rw (← h.0, ← h.1, c.in-Header.is) c.lay.ensures
+returns-in-Ok-clause-lent c =
+    rw (← c.frame_header.ensures.0, ← c.frame_header.ensures.1, c.in-Ok.is) c.lay.ensures
 
-pub returns-in-No-clause-lent : goal.returns-in-No-clause-lent
+pub returns-in-Err-clause-lent : goal.returns-in-Err-clause-lent
 unfolding bytes_over
-returns-in-No-clause-lent c =
-    let h = c.frame_header-h.ensures in
-    rw (← h.0, c.in-No.is)
+returns-in-Err-clause-lent c = rw (← c.frame_header.ensures.0, c.in-Err.is)

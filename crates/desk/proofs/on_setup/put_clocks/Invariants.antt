@@ -1,6 +1,0 @@
--- `desk::on_setup::put_clocks` ends: the records that are left fall.
-use Rattle.std.proofs.Common.{◌-◌}
-use Rattle.desk.proofs.on_setup.put_clocks.Given as goal
-
-abbrev pub decreases-loop-i : goal.decreases-loop-i
-decreases-loop-i l = l.count - l.i

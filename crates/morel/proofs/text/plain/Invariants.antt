@@ -1,6 +1,0 @@
--- `morel::text::plain` is safe and ends: the bytes that are left fall.
-use Rattle.std.proofs.Common.{◌-◌, length}
-use Rattle.morel.proofs.text.plain.Given as goal
-
-abbrev pub decreases-loop-i : goal.decreases-loop-i
-decreases-loop-i o l = length l.text - l.i
