@@ -58,7 +58,7 @@ word_found s r e = rw (e, ← first_space s) (step (ltb (word_length s) (length 
     step false e = let h : length s ≤ word_length s = ltb-false _ _ e in omega (arith, word-within s)
 
 -- a word ends inside the line, or past it where it starts
-end_within : (line : List ℕ) (from : ℕ) → (from ≤ word_end line from) × (word_end line from ≤ from + (length line - from))
+pub end_within : (line : List ℕ) (from : ℕ) → (from ≤ word_end line from) × (word_end line from ≤ from + (length line - from))
 unfolding word_end
 end_within line from = (omega arith, omega (arith, word-within (drop from line), length-drop from line))
 
@@ -78,7 +78,7 @@ word_is line word from end e f =
     let d : end - from ≡ word_length (drop from line) = omega arith in
     rw (f, d) refl
 
-word_out : (line : List ℕ) (from : ℕ) → length line ≤ from → [] ≡ word_at line from
+pub word_out : (line : List ℕ) (from : ℕ) → length line ≤ from → [] ≡ word_at line from
 unfolding word_at word_length
 word_out line from h = rw (drop_of_length-le line h)
 
@@ -163,7 +163,7 @@ length-bytes (a ∷ []) = refl
 length-bytes (a ∷ b ∷ s) = omega (arith, length-bytes s)
 
 -- every digit of a pair is one
-nibble_in : (s : List ℕ) (i : ℕ) → is_bytes s ≡ true → i < 2 * (length s / 2) → nibble_of (get_or s i 0) ≤ 15
+pub nibble_in : (s : List ℕ) (i : ℕ) → is_bytes s ≡ true → i < 2 * (length s / 2) → nibble_of (get_or s i 0) ≤ 15
 unfolding is_bytes
 nibble_in [] i e h = omega arith
 nibble_in (a ∷ []) i e h = omega arith

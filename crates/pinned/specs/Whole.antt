@@ -40,12 +40,15 @@ use Rattle.export.specs.contracts as of-export
 abbrev pub Contract : {M : Type 1} → Ura M → Ended → Type 2
 Contract 𝓤 T = (𝓛 : Logic 𝓤) → (Memory → SProp 𝓤) → (Routine → Fun 𝓤) → Clauses 𝓤 T
 
--- the arguments with the width m, which is the second or the third of them
+-- the arguments with the width m, which is the second, the third or the fourth of them
 abbrev pub second : {L X Y : Type 0} → L → Chunk → X × (Chunk × Y) → X × (Chunk × Y)
 second κs m a = (a.0, (m, a.1.1))
 
 abbrev pub third : {L X Y Z : Type 0} → L → Chunk → X × (Y × (Chunk × Z)) → X × (Y × (Chunk × Z))
 third κs m a = (a.0, (a.1.0, (m, a.1.1.1)))
+
+abbrev pub fourth : {L X Y Z W : Type 0} → L → Chunk → X × (Y × (Z × (Chunk × W))) → X × (Y × (Z × (Chunk × W)))
+fourth κs m a = (a.0, (a.1.0, (a.1.1.0, (m, a.1.1.1.1))))
 
 -- the last values for one width are those for the other
 abbrev pub IsAlike : {L B X : Type 0} → L → B → Chunk → X → X → Type 0
