@@ -138,14 +138,22 @@ module _ {R : Type 0} (item : ℕ → Item R) (lent : List R) (start : ℕ) wher
 
 -- ---- a category that was sought
 
--- where it is refused so is its list
-pub unsought : {R T : Type 0} (values : T → List ℕ) (go : ℕ → ℕ → Listed R) (s : Said) (r : Result T Refusal) (e : Refusal) → said_of e ≡ s → IsErrAnd r (λ x. x ≡ e) → said values r ≡ count_said (in_category s go)
+-- where it is refused so is its list, and nothing is laid
+pub unsought : {R : Type 0} (go : ℕ → ℕ → Listed R) (lay : ℕ → ℕ → List R) (s : Said) (r : Result ℕ Refusal) (e : Refusal) (lent : List R) → said_of e ≡ s → IsErrAnd r (λ x. x ≡ e) →
+    (said number_value r ≡ count_said (in_category s go)) × (lent ≡ overlay lent 0 (laid_in s lay))
+unfolding in_category laid_in
+unsought go lay s r e lent h q =
+    let o = err_from_is_err_and r q in
+    rw (← h, o.1, o.2) (refl, sym (overlay-none lent 0))
+
+-- .. whatever a call gives beside the count
+pub unsought_said : {R T : Type 0} (values : T → List ℕ) (go : ℕ → ℕ → Listed R) (s : Said) (r : Result T Refusal) (e : Refusal) → said_of e ≡ s → IsErrAnd r (λ x. x ≡ e) → said values r ≡ count_said (in_category s go)
 unfolding in_category
-unsought values go s r e h q =
+unsought_said values go s r e h q =
     let o = err_from_is_err_and r q in
     rw (← h, o.1, o.2) refl
 
--- nothing laid changes nothing
+-- .. and nothing laid changes nothing
 pub nothing : {A : Type 0} → (xs : List A) → xs ≡ overlay xs 0 []
 nothing xs = sym (overlay-none xs 0)
 

@@ -54,7 +54,11 @@ count_in (gives v) = get_or v 0 0
 count_in absent = 0
 count_in (refuses n v) = 0
 
--- how many they are and every place, or the refusal
+-- how many they are, or the refusal
+pub count_unique : (r s : Result ℕ Refusal) (x : Said) → said number_value r ≡ x → said number_value s ≡ x → r ≡ s
+count_unique = refusals.number_unique
+
+-- .. and every place
 module _ {R : Type 0} (places : List R) where
   records_back : (r : Result (ℕ × List R) Refusal) → IfOk r (λ a. a.1 ≡ places) →
       answer_of (said (λ a. number_value a.0) r) (count_in (said (λ a. number_value a.0) r), places) ≡ r
