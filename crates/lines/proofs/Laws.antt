@@ -145,6 +145,19 @@ below_some v = step (ltb v 16) refl
     step true e = let h : v < 16 = ltb-true _ _ e in rw (le-leb v 15 (omega arith))
     step false e = let h : 16 ≤ v = ltb-false _ _ e in rw (lt-leb v 15 (omega arith))
 
+-- the value of a hex digit by arithmetic: of `0` to `9` it is the low half, and of `a` to `f` nine more
+pub nibble_sum : (b : ℕ) → nibble_of b ≤ 15 → b % 16 + 9 * (b / 64) ≡ nibble_of b
+unfolding nibble_of
+nibble_sum b h = go (ltb b 48) (ltb b 58) (ltb b 97) (ltb b 103) refl refl refl refl h
+  where
+    go : (t u v w : Bool) → ltb b 48 ≡ t → ltb b 58 ≡ u → ltb b 97 ≡ v → ltb b 103 ≡ w
+        → pick t 16 (pick u (b - 48) (pick v 16 (pick w (b - 87) 16))) ≤ 15 → b % 16 + 9 * (b / 64) ≡ pick t 16 (pick u (b - 48) (pick v 16 (pick w (b - 87) 16)))
+    go true u v w p q r s h = absurd (omega arith)
+    go false true v w p q r s h = omega (arith, ltb-false _ _ p, ltb-true _ _ q)
+    go false false true w p q r s h = absurd (omega arith)
+    go false false false true p q r s h = omega (arith, ltb-false _ _ r, ltb-true _ _ s)
+    go false false false false p q r s h = absurd (omega arith)
+
 pub hex_each : (s : List ℕ) → list_all (λ b. is_some (below 16 (nibble_of b))) s ≡ all_hex s
 unfolding all_hex
 hex_each [] = refl
