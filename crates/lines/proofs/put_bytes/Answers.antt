@@ -40,8 +40,13 @@ pub overflow_add-room : goal.overflow_add-room
 overflow_add-room c =
     let w = c.args.word.now in
     let n = length-bytes w in
-    omega (arith, c.nibble_value.ensures, nibble_in w (2 * c.loop-j.j) c.requires.0 (omega (arith, n)),
-        c.nibble_value-in-loop-j.ensures, nibble_in w (2 * c.loop-j.j + 1) c.requires.0 (omega (arith, n)))
+    omega (
+      arith,
+      c.nibble_value.ensures,
+      nibble_in w (2 * c.loop-j.j) c.requires.0 (omega (arith, n)),
+      c.nibble_value-in-loop-j.ensures,
+      nibble_in w (2 * c.loop-j.j + 1) c.requires.0 (omega (arith, n)),
+    )
 
 pub loop-j-preserved : goal.loop-j-preserved
 loop-j-preserved c =
@@ -49,7 +54,7 @@ loop-j-preserved c =
     let l = c.loop-j in
     let b = bytes_of a.word.now in
     let v : 16 * c.nibble_value.result + c.nibble_value-in-loop-j.result ≡ get_or b l.j 0 =
-        rw (c.nibble_value.ensures, c.nibble_value-in-loop-j.ensures) (byte_of a.word.now l.j (omega arith)) in
+    rw (c.nibble_value.ensures, c.nibble_value-in-loop-j.ensures) (byte_of a.word.now l.j (omega arith)) in
     rw (v, l.invariant, add-one, ← paste-suc a.room.now 0 b l.j 0 (omega arith) (omega arith), zero-add)
 
 pub returns : goal.returns
