@@ -68,6 +68,7 @@ enum Step {
 // Finds the first category of this number, within the first 31 empty headers: its body, from its first byte to its end.
 // Refuses 14 where the image is too long or the number may not be sought, and 1 where a length leads past the last word or the range would end above its limit.
 #[tactic(auto, unfolding(crate::specs::Category::category_said))]
+#[inline]
 pub fn category(image: &[u8], chunk: Chunk, number: u16) -> Result<Option<Range>, Refusal>
     ensures { said_found result ≡ category_said image.now number }
 {

@@ -58,8 +58,13 @@ pub struct DistributedClocks {
 pub fn distributed_clocks(image: &[u8], chunk: Chunk) -> Result<DistributedClocks, Refusal>
     ensures { back_clocks result ≡ back clock_zero clock_most (clocks_of image.now) }
 {
-    let mut items = [DistributedClock::default(); CLOCK_MOST];
-    let count = read_records::<DistributedClock>(image, chunk, DISTRIBUTED_CLOCK, &mut items)?;
+    let blank = [DistributedClock::default(); CLOCK_MOST];
+    let (count, items) = read_records::<DistributedClock, _>(
+        image,
+        chunk,
+        DISTRIBUTED_CLOCK,
+        blank,
+    )?;
     Ok(DistributedClocks { count, items })
 }
 

@@ -57,7 +57,7 @@ pub fn open(area: &mut [u8]) -> Result<Builder, Refusal>
     if area.len() > AREA_MOST {
         return Err(Refusal::BadArgument);
     }
-    area.fill(0);
+    wire::fill(area, 0);
     Ok(Builder::default())
 }
 
@@ -184,7 +184,7 @@ fn rest_len(size: usize, used: usize, given: usize) -> usize
     requires { used ≤ size }
     ensures { result ≡ taken size used given }
 {
-    given.min((size - used).saturating_sub(PDU_OVERHEAD_BYTES))
+    wire::lesser(given, (size - used).saturating_sub(PDU_OVERHEAD_BYTES))
 }
 
 // A PDU of len payload bytes behind the used ones, of which `bytes` are written; its last two bytes, the working counter, are not.

@@ -17,6 +17,7 @@ mod words;
 
 use crate::answers::Answers;
 use crate::input::Taken;
+use crate::words::LINE_MOST;
 use std::io;
 use std::io::{BufRead, BufReader, Input};
 
@@ -30,7 +31,8 @@ fn main(rt: HostRuntime) -> io::Result<()> {
 // A proved loop has to end, and nothing says that the input does: the turns are a number that no run uses up.
 fn serve<R: Input + Print + AllocGlobal>(rt: &R) -> io::Result<()> {
     let mut input = BufReader::with_capacity(rt.alloc(), CHUNK_BYTES, rt.reader())?;
-    let mut line = Vec::new(rt.alloc());
+    // Room for the longest line from the start: one that grew would ask for twice as much.
+    let mut line = Vec::with_capacity(rt.alloc(), LINE_MOST + 1)?;
     let mut answers = Answers::new(rt.alloc());
     for _ in 0..u64::MAX {
         if input.buffer().is_empty() {

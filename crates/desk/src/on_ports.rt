@@ -1,28 +1,42 @@
 // The requests on a port record.
 use crate::answers::{Answered, Answers, Stop};
 use crate::words::Words;
-use ports::{Port, Ports, Topology};
+use ports::{Ports, Topology};
 
 // More bytes than the text of any ports has.
 const TEXT_ROOM: usize = 64;
 
+// What a line says of a place: its port's number is none of it, for `Ports::new` gives that.
+#[derive(Clone, Copy)]
+struct Place {
+    active: bool,
+    dc_receive_time: u32,
+    downstream_to: Option<u16>,
+}
+
 impl<'a> Words<'a> {
-    // One place of a port record, with its port's number. LINK 0 is none.
-    fn port(&mut self, number: u8) -> Result<Port, Stop> {
+    // One place of a port record. LINK 0 is none.
+    fn place(&mut self) -> Result<Place, Stop> {
         let active = self.active()?;
         let dc_receive_time = self.long()?;
         let link = self.short()?;
-        Ok(Port {
+        Ok(Place {
             active,
             dc_receive_time,
-            number,
             downstream_to: if link == 0 { None } else { Some(link) },
         })
     }
 
     // P
     fn ports(&mut self) -> Result<Ports, Stop> {
-        Ok(Ports([self.port(0)?, self.port(3)?, self.port(1)?, self.port(2)?]))
+        let places = [self.place()?, self.place()?, self.place()?, self.place()?];
+        let [first, second, third, fourth] = places.map(|p| p.active);
+        let mut ports = Ports::new(first, second, third, fourth);
+        for (port, place) in ports.0.iter_mut().zip(places) {
+            port.dc_receive_time = place.dc_receive_time;
+            port.downstream_to = place.downstream_to;
+        }
+        Ok(ports)
     }
 
     // P and no further word.
@@ -113,9 +127,10 @@ pub(crate) fn linked(words: &mut Words, answers: &mut Answers) -> Answered {
 }
 
 pub(crate) fn assign(words: &mut Words, answers: &mut Answers) -> Answered {
-    let (mut ports, link) = words.ports_and_link()?;
-    answers.says_if_any(held::assign_next_downstream_port(&mut ports, link))?;
-    answers.ports(ports)
+    let (ports, link) = words.ports_and_link()?;
+    let assigned = held::after_assign(ports, link);
+    answers.says_if_any(assigned.answer)?;
+    answers.ports(assigned.ports)
 }
 
 pub(crate) fn times(words: &mut Words, answers: &mut Answers) -> Answered {

@@ -2,7 +2,7 @@
 use crate::answers::{Answered, Answers, Stop};
 use crate::words::Words;
 use eeprom::Range;
-use held::{EepromRange, EepromRangeMut};
+use held::EepromRange;
 use refusal::Refusal;
 
 pub(crate) fn range_row(range: Range) -> [u64; 2] {
@@ -85,9 +85,9 @@ pub(crate) fn byte(words: &mut Words, answers: &mut Answers) -> Answered {
     let (image, chunk) = words.image()?;
     let range = words.range()?;
     words.end()?;
-    let mut range = over(&image, range);
-    answers.says_one(range.read_byte(chunk))?;
-    answers.range(standing(range))
+    let read = held::byte_in(&image, range, chunk);
+    answers.says_one(read.answer)?;
+    answers.range(read.range)
 }
 
 pub(crate) fn read(words: &mut Words, answers: &mut Answers) -> Answered {
@@ -114,17 +114,11 @@ pub(crate) fn exact(words: &mut Words, answers: &mut Answers) -> Answered {
 
 pub(crate) fn write(words: &mut Words, answers: &mut Answers) -> Answered {
     let mut image = words.bytes()?;
-    let Range { byte_pos, end } = words.range()?;
+    let range = words.range()?;
     let bytes = words.bytes()?;
     words.end()?;
-    let mut range = EepromRangeMut {
-        image: &mut image,
-        byte_pos,
-        end,
-    };
-    let written = range.write(&bytes);
-    let byte_pos = range.byte_pos;
-    answers.says_one(written)?;
-    answers.range(Range { byte_pos, end })?;
+    let written = held::write_in(&mut image, range, &bytes);
+    answers.says_one(written.answer)?;
+    answers.range(written.range)?;
     answers.lent(&image)
 }

@@ -103,7 +103,7 @@ unfolding listing read_said
 says-places s bad = (refl, (refl, refl))
 says-places s (good l) = (refl, (sym (length-map l (seen_at s)), refl))
 
-says-read : (s : List ℕ) (r : Result FrameRead Refusal) → r ≡ listing s (frame_of s) → Says (read_of s) r
+pub says-read : (s : List ℕ) (r : Result FrameRead Refusal) → r ≡ listing s (frame_of s) → Says (read_of s) r
 unfolding read_of
 says-read s r e = rw e (says-places s (frame_of s))
 

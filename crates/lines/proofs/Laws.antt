@@ -58,7 +58,7 @@ word_found s r e = rw (e, ← first_space s) (step (ltb (word_length s) (length 
     step false e = let h : length s ≤ word_length s = ltb-false _ _ e in omega (arith, word-within s)
 
 -- a word ends inside the line, or past it where it starts
-end_within : (line : List ℕ) (from : ℕ) → (from ≤ word_end line from) × (word_end line from ≤ from + (length line - from))
+pub end_within : (line : List ℕ) (from : ℕ) → (from ≤ word_end line from) × (word_end line from ≤ from + (length line - from))
 unfolding word_end
 end_within line from = (omega arith, omega (arith, word-within (drop from line), length-drop from line))
 
@@ -78,7 +78,7 @@ word_is line word from end e f =
     let d : end - from ≡ word_length (drop from line) = omega arith in
     rw (f, d) refl
 
-word_out : (line : List ℕ) (from : ℕ) → length line ≤ from → [] ≡ word_at line from
+pub word_out : (line : List ℕ) (from : ℕ) → length line ≤ from → [] ≡ word_at line from
 unfolding word_at word_length
 word_out line from h = rw (drop_of_length-le line h)
 
@@ -145,6 +145,19 @@ below_some v = step (ltb v 16) refl
     step true e = let h : v < 16 = ltb-true _ _ e in rw (le-leb v 15 (omega arith))
     step false e = let h : 16 ≤ v = ltb-false _ _ e in rw (lt-leb v 15 (omega arith))
 
+-- the value of a hex digit by arithmetic: of `0` to `9` it is the low half, and of `a` to `f` nine more
+pub nibble_sum : (b : ℕ) → nibble_of b ≤ 15 → b % 16 + 9 * (b / 64) ≡ nibble_of b
+unfolding nibble_of
+nibble_sum b h = go (ltb b 48) (ltb b 58) (ltb b 97) (ltb b 103) refl refl refl refl h
+  where
+    go : (t u v w : Bool) → ltb b 48 ≡ t → ltb b 58 ≡ u → ltb b 97 ≡ v → ltb b 103 ≡ w
+        → pick t 16 (pick u (b - 48) (pick v 16 (pick w (b - 87) 16))) ≤ 15 → b % 16 + 9 * (b / 64) ≡ pick t 16 (pick u (b - 48) (pick v 16 (pick w (b - 87) 16)))
+    go true u v w p q r s h = absurd (omega arith)
+    go false true v w p q r s h = omega (arith, ltb-false _ _ p, ltb-true _ _ q)
+    go false false true w p q r s h = absurd (omega arith)
+    go false false false true p q r s h = omega (arith, ltb-false _ _ r, ltb-true _ _ s)
+    go false false false false p q r s h = absurd (omega arith)
+
 pub hex_each : (s : List ℕ) → list_all (λ b. is_some (below 16 (nibble_of b))) s ≡ all_hex s
 unfolding all_hex
 hex_each [] = refl
@@ -163,7 +176,7 @@ length-bytes (a ∷ []) = refl
 length-bytes (a ∷ b ∷ s) = omega (arith, length-bytes s)
 
 -- every digit of a pair is one
-nibble_in : (s : List ℕ) (i : ℕ) → is_bytes s ≡ true → i < 2 * (length s / 2) → nibble_of (get_or s i 0) ≤ 15
+pub nibble_in : (s : List ℕ) (i : ℕ) → is_bytes s ≡ true → i < 2 * (length s / 2) → nibble_of (get_or s i 0) ≤ 15
 unfolding is_bytes
 nibble_in [] i e h = omega arith
 nibble_in (a ∷ []) i e h = omega arith

@@ -94,6 +94,15 @@ fn nibble(b: u8) -> Option<u8>
     }
 }
 
+// The value of a byte that is one. By arithmetic and no `match`: of bytes of any kind no branch can tell beforehand whether a digit or a letter comes next.
+#[tactic(auto, using(crate::proofs::Laws::nibble_sum))]
+fn nibble_value(b: u8) -> u8
+    requires { nibble_of b ≤ 15 }
+    ensures { result ≡ nibble_of b }
+{
+    b % 16 + 9 * (b / 64)
+}
+
 // Whether a word has hex digits only.
 fn all_hex(word: &[u8]) -> bool
     ensures { result ≡ all_hex word.now }
@@ -119,7 +128,7 @@ fn put_bytes(word: &[u8], room: &mut [u8], n: usize)
     ensures { room.new ≡ laid room.old 0 (bytes_of word.now) }
 {
     for j in 0..n {
-        room[j] = 16 * nibble(word[2 * j]).unwrap() + nibble(word[2 * j + 1]).unwrap();
+        room[j] = 16 * nibble_value(word[2 * j]) + nibble_value(word[2 * j + 1]);
     }
 }
 

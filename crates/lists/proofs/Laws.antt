@@ -146,6 +146,13 @@ unsought go lay s r e lent h q =
     let o = err_from_is_err_and r q in
     rw (← h, o.1, o.2) (refl, sym (overlay-none lent 0))
 
+-- .. whatever a call gives beside the count
+pub unsought_said : {R T : Type 0} (values : T → List ℕ) (go : ℕ → ℕ → Listed R) (s : Said) (r : Result T Refusal) (e : Refusal) → said_of e ≡ s → IsErrAnd r (λ x. x ≡ e) → said values r ≡ count_said (in_category s go)
+unfolding in_category
+unsought_said values go s r e h q =
+    let o = err_from_is_err_and r q in
+    rw (← h, o.1, o.2) refl
+
 -- .. and nothing laid changes nothing
 pub nothing : {A : Type 0} → (xs : List A) → xs ≡ overlay xs 0 []
 nothing xs = sym (overlay-none xs 0)

@@ -3,7 +3,8 @@ use Prim.Native.Nat.{ℕ, ◌+◌, ◌≤◌, ◌<◌}
 use native.Mathlib.Omega.{arith}
 use mathlib.Core.Path.{◌≡◌, refl, sym, ap, ◌∙◌}
 use mathlib.Core.List.{List}
-use Rattle.std.specs.Prelude.{Option, Some, None, MatchOption, Result, Ok, Err}
+use lib.ListN.{get_or}
+use Rattle.std.specs.Prelude.{Option, Some, None, MatchOption, Result, Ok, Err, IfOk}
 use Rattle.refusal.specs.Said.{Said, gives, absent, refuses, said, number_value}
 use Rattle.refusal.specs.declared.Refusal.{Refusal}
 use Rattle.refusal.proofs.Unique as refusals
@@ -47,9 +48,27 @@ pdos_unique = back_unique pdo_zero pdo_most (λ r. r.count) (λ r. r.items) (λ 
 
 -- ---- reading records
 
+-- the number that is said first
+abbrev count_in : Said → ℕ
+count_in (gives v) = get_or v 0 0
+count_in absent = 0
+count_in (refuses n v) = 0
+
 -- how many they are, or the refusal
 pub count_unique : (r s : Result ℕ Refusal) (x : Said) → said number_value r ≡ x → said number_value s ≡ x → r ≡ s
 count_unique = refusals.number_unique
+
+-- .. and every place
+module _ {R : Type 0} (places : List R) where
+  records_back : (r : Result (ℕ × List R) Refusal) → IfOk r (λ a. a.1 ≡ places) →
+      answer_of (said (λ a. number_value a.0) r) (count_in (said (λ a. number_value a.0) r), places) ≡ r
+  unfolding answer_of
+  records_back (Ok a) h = ap (λ (l : List R). Ok (a.0, l)) (sym h)
+  records_back (Err x) h = ap Err (refusals.back x)
+
+  pub records_unique : (r s : Result (ℕ × List R) Refusal) (x : Said) → said (λ a. number_value a.0) r ≡ x → said (λ a. number_value a.0) s ≡ x →
+      IfOk r (λ a. a.1 ≡ places) → IfOk s (λ a. a.1 ≡ places) → r ≡ s
+  records_unique r s x p q h k = sym (records_back r h) ∙ ap (λ (y : Said). answer_of y (count_in y, places)) (p ∙ sym q) ∙ records_back s k
 
 -- the rest behind n bytes
 pub rest_unique : (rest : Range) (n : ℕ) (a b : Option Range) →

@@ -4,7 +4,7 @@
 
 mod layout;
 
-ghost use Rattle.std.specs.Prelude.{MatchOption, Ok, List, ℕ, ◌≡◌, ◌+◌, ◌^◌, ◌≤◌, ◌<◌, min, length};
+ghost use Rattle.std.specs.Prelude.{MatchOption, IfOk, Ok, List, ℕ, ◌≡◌, ◌+◌, ◌^◌, ◌≤◌, ◌<◌, min, length};
 ghost use Rattle.refusal.specs.Said.{said, number_value};
 ghost use Rattle.wire.specs.Bytes.{overlay};
 ghost use Rattle.category.specs.Numbers.{tx_pdo, rx_pdo};
@@ -103,20 +103,21 @@ pub fn rest_behind(rest: Range, bytes: Pos) -> Option<Range>
     }
 }
 
-// Reads the records of the category of this number into the places, from the first on, and answers how many there are: none where there is no category.
-// Refuses what the search for it does; then 5, and 6 if one more record stands there than there are places.
-// The places are lent: the caller says how many there are, and what an unused one holds.
-pub fn read_records<R: Record>(
+// Reads the records of the category of this number over the blank places, from the first on; gives how many there are, none where there is no category, and the places.
+// Refuses what the search for it does; then 5, and 6 if one more record stands there than there are places. The caller says how many there are, and what an unused one holds.
+pub fn read_records<R: Record, const N: usize>(
     image: &[u8],
     chunk: Chunk,
     number: u16,
-    places: &mut [R::Value],
-) -> Result<usize, Refusal>
-    ensures said { said number_value result ≡ count_said (in_category (category_said image.now number) (λ p end. records (R.item_at image.now end) (length places.old) p)) }
-    ensures lent { places.new ≡ overlay places.old 0 (laid_in (category_said image.now number) (λ p end. laid_records (R.item_at image.now end) (length places.old) p)) }
+    blank: [R::Value; N],
+) -> Result<(usize, [R::Value; N]), Refusal>
+    ensures said { said (λ r. number_value r.0) result ≡ count_said (in_category (category_said image.now number) (λ p end. records (R.item_at image.now end) N p)) }
+    ensures laid { IfOk result (λ r. r.1 ≡ overlay blank 0 (laid_in (category_said image.now number) (λ p end. laid_records (R.item_at image.now end) N p))) }
 {
     let found = category(image, chunk, number)?;
-    read_found::<R>(image, chunk, found, places)
+    let mut places = blank;
+    let count = read_found::<R>(image, chunk, found, &mut places)?;
+    Ok((count, places))
 }
 
 // .. of the category that was found.
@@ -165,8 +166,8 @@ fn read_all<R: Record>(
 pub fn sync_managers(image: &[u8], chunk: Chunk) -> Result<SyncManagers, Refusal>
     ensures { back_sms result ≡ back sm_zero sm_most (sms_of image.now) }
 {
-    let mut items = [SyncManager::default(); SM_MOST];
-    let count = read_records::<SyncManager>(image, chunk, SYNC_MANAGER, &mut items)?;
+    let blank = [SyncManager::default(); SM_MOST];
+    let (count, items) = read_records::<SyncManager, _>(image, chunk, SYNC_MANAGER, blank)?;
     Ok(SyncManagers { count, items })
 }
 
@@ -282,8 +283,8 @@ pub fn fmmus(image: &[u8], chunk: Chunk) -> Result<FmmuList, Refusal>
 pub fn fmmu_mappings(image: &[u8], chunk: Chunk) -> Result<FmmuList, Refusal>
     ensures { back_fmmus result ≡ back 0 fmmu_most (ex_of image.now) }
 {
-    let mut items = [0; FMMU_MOST];
-    let count = read_records::<ExtendedFmmu>(image, chunk, FMMU_EXTENDED, &mut items)?;
+    let blank = [0; FMMU_MOST];
+    let (count, items) = read_records::<ExtendedFmmu, _>(image, chunk, FMMU_EXTENDED, blank)?;
     Ok(FmmuList { count, items })
 }
 
@@ -357,8 +358,8 @@ pub fn maindevice_write_pdos(image: &[u8], chunk: Chunk) -> Result<PdoList, Refu
 fn pdos(image: &[u8], chunk: Chunk, number: u16) -> Result<PdoList, Refusal>
     ensures { back_pdos result ≡ back pdo_zero pdo_most (pdos_of image.now number) }
 {
-    let mut items = [Pdo::default(); PDO_MOST];
-    let count = read_records::<Pdo>(image, chunk, number, &mut items)?;
+    let blank = [Pdo::default(); PDO_MOST];
+    let (count, items) = read_records::<Pdo, _>(image, chunk, number, blank)?;
     Ok(PdoList { count, items })
 }
 

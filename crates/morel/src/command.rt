@@ -1,14 +1,15 @@
 // A command: what its words say, and what it does with its file.
+ghost use Rattle.std.specs.Prelude.{◌≤◌};
+
 use crate::file::FileError;
 use crate::report::Report;
 use crate::shown::Plain;
-use crate::words::parse_number;
-use crate::{alias, file, frame, image, spreading};
+use crate::words::{PATH_MOST, Word, parse_number};
+use crate::{alias, file, frame, image, spreading, words};
 use eeprom::IMAGE_MOST;
 use pdu::{AREA_MOST, FRAME_HEADER_BYTES};
-use std::alloc::AllocError;
 use std::fs::File;
-use std::rt::Files;
+use std::rt::{Env, Files};
 
 // The most bytes of a frame: its header, and the most that its 11 bits count.
 const FRAME_MOST: usize = FRAME_HEADER_BYTES + AREA_MOST;
@@ -16,7 +17,8 @@ const FRAME_MOST: usize = FRAME_HEADER_BYTES + AREA_MOST;
 #[derive(Clone, Copy)]
 pub(crate) struct Command<'a> {
     name: &'a str,
-    file: &'a [u8],
+    // Which argument names the file.
+    file: usize,
     action: Action,
 }
 
@@ -37,7 +39,9 @@ enum Action {
 
 impl Action {
     // The most bytes of the file.
-    fn most(self) -> usize {
+    fn most(self) -> usize
+        ensures { result ≤ 131072 }
+    {
         match self {
             Action::Frame => FRAME_MOST,
             _ => IMAGE_MOST,
@@ -47,44 +51,50 @@ impl Action {
 
 impl<'a> Command<'a> {
     // The command that these words say.
-    pub(crate) fn parsed(words: &'a [Vec<u8>]) -> Option<Command<'a>> {
+    pub(crate) fn parsed(words: &'a [Word]) -> Option<Command<'a>> {
         let (first, words) = words.split_first()?;
-        let name = str::from_utf8(first.as_slice()).ok()?;
+        let name = str::from_utf8(first.bytes()).ok()?;
         let (file, action) = match (name, words) {
             ("sii", [file]) => (file, Action::Sii),
             ("frame", [file]) => (file, Action::Frame),
-            ("alias", [file, number]) => (file, aliased(number.as_slice(), false)),
-            ("alias", [file, number, force]) if force.as_slice() == b"force".as_slice() => {
-                (file, aliased(number.as_slice(), true))
+            ("alias", [file, number]) => (file, aliased(number.bytes(), false)),
+            ("alias", [file, number, force]) if force.bytes() == b"force".as_slice() => {
+                (file, aliased(number.bytes(), true))
             }
             ("spread", [size, areas, file]) => (
                 file,
                 Action::Spread {
-                    size: parse_number(size.as_slice()),
-                    areas: parse_number(areas.as_slice()),
+                    size: parse_number(size.bytes()),
+                    areas: parse_number(areas.bytes()),
                 },
             ),
             _ => return None,
         };
         Some(Command {
             name,
-            file: file.as_slice(),
+            file: file.number,
             action,
         })
     }
 
-    // Reads the file, and does what is to be done with it.
-    pub(crate) fn run<R: Files<File = File> + Print + Eprint + AllocGlobal>(
+    // Reads the file, and does what is to be done with it. Not inlined, so that words that are no command's take no stack for a file. The rooms stand
+    // first: what stands before them would have them zeroed twice.
+    #[inline(never)]
+    pub(crate) fn run<R: Files<File = File> + Env + Print + Eprint + AllocGlobal>(
         self,
         report: &mut Report<'_, R>,
-    ) -> Result<(), AllocError> {
-        let most = self.action.most();
+    ) {
+        let mut path_room = [0u8; PATH_MOST];
+        let mut image = [0u8; IMAGE_MOST];
+        let path = words::path(report.rt(), self.file, &mut path_room);
         report.line("command", self.name);
-        report.line("file", Plain(self.file));
-        match file::read(report.rt(), self.file, most) {
-            Ok(mut bytes) => {
-                report.line("file bytes", bytes.len());
-                self.act(report, bytes.as_mut_slice())?;
+        report.line("file", Plain(path));
+        let most = self.action.most();
+        let room = &mut image[..most];
+        match file::read(report.rt(), path, room) {
+            Ok(n) => {
+                report.line("file bytes", n);
+                self.act(report, path, &mut room[..n]);
             }
             Err(FileError::Unreadable) => report.error("the file cannot be read"),
             Err(FileError::TooLarge) => {
@@ -92,21 +102,20 @@ impl<'a> Command<'a> {
                 report.line("bytes at most", most);
             }
         }
-        Ok(())
     }
 
     fn act<R: Files<File = File> + Print + Eprint + AllocGlobal>(
         self,
         report: &mut Report<'_, R>,
+        path: &[u8],
         bytes: &mut [u8],
-    ) -> Result<(), AllocError> {
+    ) {
         match self.action {
             Action::Sii => image::print(report, bytes),
             Action::Frame => frame::print(report, bytes),
-            Action::Alias { number, force } => alias::set(report, self.file, bytes, number, force),
-            Action::Spread { size, areas } => spreading::cut(report, bytes, size, areas)?,
+            Action::Alias { number, force } => alias::set(report, path, bytes, number, force),
+            Action::Spread { size, areas } => spreading::cut(report, bytes, size, areas),
         }
-        Ok(())
     }
 }
 

@@ -1,7 +1,9 @@
-// A command's file: opened by its name, and read whole.
+// A command's file: opened by its name, and read whole into a lent room.
+ghost use Rattle.std.specs.Prelude.{◌≤◌, IfOk, length};
+
 use std::fs::OpenOptions;
 use std::io;
-use std::io::Read;
+use std::io::{ErrorKind, Read};
 use std::rt::Files;
 
 // The system's number for bytes that are no text: a file is opened by a name in UTF-8 alone.
@@ -49,23 +51,47 @@ fn without_number(text: &str) -> &str {
         .map_or(text, |(words, _)| words)
 }
 
-// The file's bytes, of which there may be so many.
+// Reads the file to the front of a room for as many bytes as it may have, and answers how many it has. One more is asked for behind them: where it
+// comes, the file is too large.
 pub(crate) fn read<R: Files + Eprint + AllocGlobal>(
     rt: &R,
     path: &[u8],
-    most: usize,
-) -> Result<Vec<u8>, FileError> {
+    room: &mut [u8],
+) -> Result<usize, FileError>
+    ensures { IfOk result (λ n. n ≤ length room.new) }
+{
     let mut file = open(rt, OpenOptions::new().read(true), path).ok_or(FileError::Unreadable)?;
-    let mut bytes = Vec::new(rt.alloc());
-    match is_read_whole(&mut file, &mut bytes, most) {
-        Ok(true) => Ok(bytes),
-        Ok(false) => Err(FileError::TooLarge),
+    let n = fill(&mut file, room).map_err(|_| FileError::Unreadable)?;
+    match read_some(&mut file, &mut [0u8; 1]) {
+        Ok(0) => Ok(n),
+        Ok(_) => Err(FileError::TooLarge),
         Err(_) => Err(FileError::Unreadable),
     }
 }
 
-// Whether what is left to read has no more bytes than it may: one more is asked for behind them.
-fn is_read_whole(file: &mut impl Read, bytes: &mut Vec<u8>, most: usize) -> io::Result<bool> {
-    file.take(most as u64).read_to_end(bytes)?;
-    Ok(file.read(&mut [0u8; 1])? == 0)
+// Reads until the room is full or the file ends, and answers how many bytes came.
+fn fill(file: &mut impl Read, room: &mut [u8]) -> io::Result<usize>
+    ensures { IfOk result (λ n. n ≤ length room.new) }
+{
+    let mut n = 0;
+    while n < room.len() {
+        match read_some(file, &mut room[n..])? {
+            0 => break,
+            got => n += got,
+        }
+    }
+    Ok(n)
+}
+
+// What one read gives. One that a signal interrupts is begun again.
+fn read_some(file: &mut impl Read, room: &mut [u8]) -> io::Result<usize>
+    ensures { IfOk result (λ n. n ≤ length room.new) }
+{
+    for _ in 0..u64::MAX {
+        match file.read(room) {
+            Err(e) if e.kind() == ErrorKind::Interrupted => {}
+            answer => return answer,
+        }
+    }
+    Err(io::Error::from(ErrorKind::Interrupted))
 }

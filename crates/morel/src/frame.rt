@@ -8,6 +8,8 @@ pub(crate) const COMMANDS: [&str; 15] = [
     "LRW", "ARMW", "FRMW",
 ];
 
+// Not inlined, so that the PDUs' fields take no stack from the other commands.
+#[inline(never)]
 pub(crate) fn print(report: &mut Report<'_, impl Print>, frame: &[u8]) {
     if let Some(read) = report.record("pdus", false, frame_reader::read_frame(frame)) {
         report.line("pdus", read.count);

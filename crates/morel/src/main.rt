@@ -19,9 +19,9 @@ mod words;
 use crate::command::Command;
 use crate::report::Report;
 use crate::status::Status;
-use std::alloc::AllocError;
+use crate::words::{Word, Words};
 use std::fs::File;
-use std::rt::Files;
+use std::rt::{Env, Files};
 
 const USAGE: &str = "no such command, or not its words
 usage: morel COMMAND [then COMMAND ..]
@@ -32,34 +32,37 @@ usage: morel COMMAND [then COMMAND ..]
 Numbers are decimal, or hex after 0x. Commands joined by the word `then` run one after the other; one that fails stops no other.";
 
 // The commands between the words `then`, in their order, an empty line between two. The worst that happened to one is the status.
-fn main(rt: HostRuntime) -> Result<(), AllocError> {
-    let all = words::read(&rt)?;
-    let (is_asked, words) = status::asked(&all);
+fn main(rt: HostRuntime) {
+    let is_asked = status::is_asked(&rt);
+    let first: usize = if is_asked { 2 } else { 1 };
     let mut worst = Status::Answered;
-    for (place, command) in words
-        .split(|word| word.as_slice() == b"then".as_slice())
-        .enumerate()
-    {
-        if 0 < place {
-            let _ = println!(rt);
+    let mut words = Words::new();
+    for number in first..usize::MAX {
+        match Word::read(&rt, number) {
+            Some(word) if word.bytes() == b"then".as_slice() => {
+                worst = worst.max(run(&rt, words.as_slice()));
+                let _ = println!(rt);
+                words = Words::new();
+            }
+            Some(word) => words.push(word),
+            None => break,
         }
-        worst = worst.max(run(&rt, command)?);
     }
+    worst = worst.max(run(&rt, words.as_slice()));
     if is_asked {
         status::tell(&rt, worst);
     }
-    Ok(())
 }
 
 // Does what the words say.
-fn run<R: Files<File = File> + Print + Eprint + AllocGlobal>(
+fn run<R: Files<File = File> + Env + Print + Eprint + AllocGlobal>(
     rt: &R,
-    words: &[Vec<u8>],
-) -> Result<Status, AllocError> {
+    words: &[Word],
+) -> Status {
     let mut report = Report::new(rt);
     match Command::parsed(words) {
-        Some(command) => command.run(&mut report)?,
+        Some(command) => command.run(&mut report),
         None => report.error(USAGE),
     }
-    Ok(report.status())
+    report.status()
 }

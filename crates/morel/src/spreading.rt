@@ -1,18 +1,21 @@
 // `morel spread`: how a process image is cut over fresh areas, and the frames. Logical writes, from address 0 on.
+ghost use Rattle.std.specs.Prelude.{◌≤◌};
+
 use crate::frame::COMMANDS;
 use crate::report::Report;
 use crate::shown::{Bytes, Hex, Named};
 use created_frame::Builder;
 use pdu::{AREA_MOST, PDU_OVERHEAD_BYTES};
-use std::alloc::AllocError;
 
 // The PDUs' command, by the number that `spread` takes, and the address of the first.
 const LWR: u8 = 11;
 
 const ADDRESS: u32 = 0;
 
-// The most areas that a row may have.
-const AREAS_MOST: u32 = 32;
+// The most areas that a row may have, and the most bytes.
+const AREAS_MOST: usize = 32;
+
+const ROW_MOST: usize = AREAS_MOST * AREA_MOST;
 
 // An area that no PDU is in.
 const FRESH: Builder = Builder {
@@ -21,39 +24,43 @@ const FRESH: Builder = Builder {
     last: 0,
 };
 
-pub(crate) fn cut<R: Print + AllocGlobal>(
-    report: &mut Report<'_, R>,
+pub(crate) fn cut(
+    report: &mut Report<'_, impl Print>,
     image: &[u8],
     size: Option<u32>,
     areas: Option<u32>,
-) -> Result<(), AllocError> {
+) {
     let Some(size) = size else {
         report.error("SIZE is no number of 32 bits");
-        return Ok(());
+        return;
     };
     let Some(areas) = areas else {
         report.error("AREAS is no number of 32 bits");
-        return Ok(());
+        return;
     };
     report.line("area bytes", size);
     report.line("areas", areas);
     report.line("pdu command", Named(LWR, &COMMANDS));
     report.line("pdu address", Hex::from(ADDRESS));
-    let mut row = vec![in report.rt().alloc(); 0u8; row_bytes(size, areas)]?;
-    spread_over(report, image, size as usize, row.as_mut_slice());
-    Ok(())
+    spread_over(report, image, size as usize, areas as usize);
 }
 
 // The bytes of a row of areas. None where the bounds are passed: spreading over no area is refused as it is over such a row.
-fn row_bytes(size: u32, areas: u32) -> usize {
-    if (AREA_MOST as u32) < size || AREAS_MOST < areas {
+fn row_bytes(size: usize, areas: usize) -> usize
+    ensures { result ≤ 65504 }
+{
+    if AREA_MOST < size || AREAS_MOST < areas {
         0
     } else {
-        (size * areas) as usize
+        size * areas
     }
 }
 
-fn spread_over(report: &mut Report<'_, impl Print>, image: &[u8], size: usize, row: &mut [u8]) {
+// Not inlined, so that the row takes no stack from the other commands. Its room stands first: what stands before it would have it zeroed twice.
+#[inline(never)]
+fn spread_over(report: &mut Report<'_, impl Print>, image: &[u8], size: usize, areas: usize) {
+    let mut room = [0u8; ROW_MOST];
+    let row = &mut room[..row_bytes(size, areas)];
     let spreading = spread::spread(row, size, FRESH, 0, LWR, ADDRESS, image);
     let Some(last) = report.record("last area", false, spreading.answer) else {
         return;
@@ -61,8 +68,8 @@ fn spread_over(report: &mut Report<'_, impl Print>, image: &[u8], size: usize, r
     report.line("last area", last);
     let mut from = 0usize;
     // A size of 0 is refused.
-    let areas = row.chunks(size.max(1));
-    for (place, (state, area)) in spreading.states.iter().zip(areas).take(last).enumerate() {
+    let pieces = row.chunks(size.max(1));
+    for (place, (state, area)) in spreading.states.iter().zip(pieces).take(last).enumerate() {
         piece(report, place, from, area.get(..state.used).unwrap_or(area));
         from = from.saturating_add(carried(state.used));
     }

@@ -1,8 +1,9 @@
 // How the program ends. Where its first word asks for its status, it writes it to a descriptor that its caller opened.
+use crate::words::Word;
 use std::fs::OpenOptions;
 use std::io;
 use std::io::Write;
-use std::rt::Files;
+use std::rt::{Env, Files};
 
 // Where the status goes: to descriptor 3, by its name.
 const STATUS_FILE: &str = "/dev/fd/3";
@@ -18,12 +19,9 @@ pub(crate) enum Status {
     Unusable,
 }
 
-// Whether the first word asks for the status, and the words that are the commands'.
-pub(crate) fn asked(words: &[Vec<u8>]) -> (bool, &[Vec<u8>]) {
-    match words {
-        [first, rest @ ..] if first.as_slice() == b"--status".as_slice() => (true, rest),
-        _ => (false, words),
-    }
+// Whether the first word asks for the status.
+pub(crate) fn is_asked(rt: &impl Env) -> bool {
+    Word::read(rt, 1).is_some_and(|word| word.bytes() == b"--status".as_slice())
 }
 
 // The status as a digit and a line's end. Where the descriptor is not open, nothing happens.

@@ -40,12 +40,15 @@ use Rattle.export.specs.contracts as of-export
 abbrev pub Contract : {M : Type 1} → Ura M → Ended → Type 2
 Contract 𝓤 T = (𝓛 : Logic 𝓤) → (Memory → SProp 𝓤) → (Routine → Fun 𝓤) → Clauses 𝓤 T
 
--- the arguments with the width m, which is the second or the third of them
+-- the arguments with the width m, which is the second, the third or the fourth of them
 abbrev pub second : {L X Y : Type 0} → L → Chunk → X × (Chunk × Y) → X × (Chunk × Y)
 second κs m a = (a.0, (m, a.1.1))
 
 abbrev pub third : {L X Y Z : Type 0} → L → Chunk → X × (Y × (Chunk × Z)) → X × (Y × (Chunk × Z))
 third κs m a = (a.0, (a.1.0, (m, a.1.1.1)))
+
+abbrev pub fourth : {L X Y Z W : Type 0} → L → Chunk → X × (Y × (Z × (Chunk × W))) → X × (Y × (Z × (Chunk × W)))
+fourth κs m a = (a.0, (a.1.0, (a.1.1.0, (m, a.1.1.1.1))))
 
 -- the last values for one width are those for the other
 abbrev pub IsAlike : {L B X : Type 0} → L → B → Chunk → X → X → Type 0
@@ -137,8 +140,8 @@ module _ {M : Type 1} {𝓤 : Ura M} (𝓛 : Logic 𝓤) (mem : Memory → SProp
     pub «setup::checksum_row» : Whole of-setup.checksum_row.ended of-setup.checksum_row.clauses
     -- ---- lists
     pub «lists::rest_behind» : Whole of-lists.rest_behind.ended of-lists.rest_behind.clauses
-    pub «lists::read_records» : (R V : RattleType) (kind : of-lists-records.Ghosts R.Denot V.Denot) (k : Dict) (copying : Ghosts V.Denot) (d : Dict)
-        → Wide (of-lists.read_records.ended R V kind k copying d) (of-lists.read_records.clauses R V kind k copying d) second IsAlike
+    pub «lists::read_records» : (R N V : RattleType) (kind : of-lists-records.Ghosts R.Denot V.Denot) (k : Dict) (copying : Ghosts V.Denot) (d : Dict)
+        → Wide (of-lists.read_records.ended R N V kind k copying d) (of-lists.read_records.clauses R N V kind k copying d) second IsAlike
     pub «lists::sync_managers» : Wide of-lists.sync_managers.ended of-lists.sync_managers.clauses second IsAlike
     pub «lists::fmmus» : Wide of-lists.fmmus.ended of-lists.fmmus.clauses second IsAlike
     pub «lists::fmmu_mappings» : Wide of-lists.fmmu_mappings.ended of-lists.fmmu_mappings.clauses second IsAlike

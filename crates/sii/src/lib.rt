@@ -23,7 +23,7 @@ use category::{GENERAL, category};
 use crc::crc;
 use eeprom::{Chunk, Range, byte_of, checked, long_of, word_of};
 use refusal::Refusal;
-use wire::lay;
+use wire::{flag, lay};
 
 #[derive(Clone, Copy)]
 pub struct SubDeviceIdentity {
@@ -355,8 +355,8 @@ pub fn general_row(g: SiiGeneral) -> [u64; 14]
         u64::from(g.order_string_idx),
         u64::from(g.name_string_idx),
         u64::from(g.coe_details),
-        u64::from(g.foe_enabled),
-        u64::from(g.eoe_enabled),
+        flag(g.foe_enabled),
+        flag(g.eoe_enabled),
         u64::from(g.flags),
         u64::from(g.ebus_current),
         u64::from(g.ports.port0),

@@ -67,7 +67,17 @@ pub fn lay<T: Copy>(dst: &mut [T], at: usize, src: &[T])
 {
     if at < dst.len() {
         let n = src.len().min(dst.len() - at);
-        dst[at..at + n].copy_from_slice(&src[..n]);
+        copy_in(&mut dst[at..at + n], &src[..n]);
+    }
+}
+
+// Copies src over all of dst, which is as long. By places and no `copy_from_slice`, since that asks a program in C for `memmove`.
+fn copy_in<T: Copy>(dst: &mut [T], src: &[T])
+    requires { length dst.old ≡ length src.now }
+    ensures { dst.new ≡ src.now }
+{
+    for (i, x) in src.iter().enumerate() {
+        dst[i] = *x;
     }
 }
 

@@ -10,4 +10,4 @@ returns-in_err-count c = unlisted _ _ _ _ _ _ _ c.in_err-count.ensures.said c.fr
 
 pub returns : goal.returns
 unfolding clocks_of
-returns c = listed _ _ _ _ _ _ _ c.in_ok-count.ensures.said c.read_records.ensures.lent (clock_blank _ c.default-items.ensures)
+returns c = listed _ _ _ _ _ _ _ c.in_ok-count.ensures.said c.in_ok-count.ensures.laid (clock_blank _ c.default-blank.ensures)

@@ -9,7 +9,7 @@ use lib.Seq.{paste-zero, paste-suc, take-length}
 use Rattle.wire.specs.Bytes.{overlay}
 use Rattle.wire.proofs.Laws.{laid-whole}
 use Rattle.lines.specs.Pairs.{bytes_of}
-use Rattle.lines.proofs.Laws.{length-bytes, below_is, nibble_is, byte_of}
+use Rattle.lines.proofs.Laws.{length-bytes, nibble_in, byte_of}
 use Rattle.lines.proofs.put_bytes.Goals as goal
 
 pub loop-j-init : goal.loop-j-init
@@ -18,34 +18,43 @@ loop-j-init c = paste-zero c.args.room.now 0 (bytes_of c.args.word.now)
 pub bounds-word-j : goal.bounds-word-j
 bounds-word-j c = omega (arith, length-bytes c.args.word.now)
 
-pub unwrap-requires : goal.unwrap-requires
-unwrap-requires c =
+pub nibble_value-requires : goal.nibble_value-requires
+nibble_value-requires c =
     let w = c.args.word.now in
-    nibble_is w (2 * c.loop-j.j) _ c.requires.0 (omega (arith, length-bytes w)) c.nibble.ensures
+    nibble_in w (2 * c.loop-j.j) c.requires.0 (omega (arith, length-bytes w))
 
 pub overflow_mul-room : goal.overflow_mul-room
-overflow_mul-room c = omega (arith, below_is 16 _ _ _ c.nibble.ensures c.unwrap.ensures)
+overflow_mul-room c =
+    let w = c.args.word.now in
+    omega (arith, c.nibble_value.ensures, nibble_in w (2 * c.loop-j.j) c.requires.0 (omega (arith, length-bytes w)))
 
 pub bounds-word-j-in-loop-j : goal.bounds-word-j-in-loop-j
 bounds-word-j-in-loop-j c = omega (arith, length-bytes c.args.word.now)
 
-pub unwrap-requires-in-loop-j : goal.unwrap-requires-in-loop-j
-unwrap-requires-in-loop-j c =
+pub nibble_value-requires-in-loop-j : goal.nibble_value-requires-in-loop-j
+nibble_value-requires-in-loop-j c =
     let w = c.args.word.now in
-    nibble_is w (2 * c.loop-j.j + 1) _ c.requires.0 (omega (arith, length-bytes w)) c.nibble-in-loop-j.ensures
+    nibble_in w (2 * c.loop-j.j + 1) c.requires.0 (omega (arith, length-bytes w))
 
 pub overflow_add-room : goal.overflow_add-room
 overflow_add-room c =
-    omega (arith, below_is 16 _ _ _ c.nibble.ensures c.unwrap.ensures, below_is 16 _ _ _ c.nibble-in-loop-j.ensures c.unwrap-in-loop-j.ensures)
+    let w = c.args.word.now in
+    let n = length-bytes w in
+    omega (
+      arith,
+      c.nibble_value.ensures,
+      nibble_in w (2 * c.loop-j.j) c.requires.0 (omega (arith, n)),
+      c.nibble_value-in-loop-j.ensures,
+      nibble_in w (2 * c.loop-j.j + 1) c.requires.0 (omega (arith, n)),
+    )
 
 pub loop-j-preserved : goal.loop-j-preserved
 loop-j-preserved c =
     let a = c.args in
     let l = c.loop-j in
     let b = bytes_of a.word.now in
-    let high = below_is 16 _ _ _ c.nibble.ensures c.unwrap.ensures in
-    let low = below_is 16 _ _ _ c.nibble-in-loop-j.ensures c.unwrap-in-loop-j.ensures in
-    let v : 16 * c.unwrap.result + c.unwrap-in-loop-j.result ≡ get_or b l.j 0 = rw (high.0, low.0) (byte_of a.word.now l.j (omega arith)) in
+    let v : 16 * c.nibble_value.result + c.nibble_value-in-loop-j.result ≡ get_or b l.j 0 =
+    rw (c.nibble_value.ensures, c.nibble_value-in-loop-j.ensures) (byte_of a.word.now l.j (omega arith)) in
     rw (v, l.invariant, add-one, ← paste-suc a.room.now 0 b l.j 0 (omega arith) (omega arith), zero-add)
 
 pub returns : goal.returns

@@ -10,4 +10,4 @@ returns-in_err-count c = unlisted _ _ _ _ _ _ _ c.in_err-count.ensures.said c.fr
 
 pub returns : goal.returns
 unfolding sms_of
-returns c = listed _ _ _ _ _ _ _ c.in_ok-count.ensures.said c.read_records.ensures.lent (sm_blank _ c.default-items.ensures)
+returns c = listed _ _ _ _ _ _ _ c.in_ok-count.ensures.said c.in_ok-count.ensures.laid (sm_blank _ c.default-blank.ensures)
