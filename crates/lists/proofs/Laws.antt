@@ -138,24 +138,22 @@ module _ {R : Type 0} (item : ℕ → Item R) (lent : List R) (start : ℕ) wher
 
 -- ---- a category that was sought
 
--- where it is refused so is its list, and nothing is laid
-pub unsought : {R : Type 0} (go : ℕ → ℕ → Listed R) (lay : ℕ → ℕ → List R) (s : Said) (r : Result ℕ Refusal) (e : Refusal) (lent : List R) → said_of e ≡ s → IsErrAnd r (λ x. x ≡ e) →
-    (said number_value r ≡ count_said (in_category s go)) × (lent ≡ overlay lent 0 (laid_in s lay))
-unfolding in_category laid_in
-unsought go lay s r e lent h q =
-    let o = err_from_is_err_and r q in
-    rw (← h, o.1, o.2) (refl, sym (overlay-none lent 0))
+-- nothing laid changes nothing
+pub nothing : {A : Type 0} → (xs : List A) → xs ≡ overlay xs 0 []
+nothing xs = sym (overlay-none xs 0)
 
--- .. whatever a call gives beside the count
+-- where it is refused so is its list, whatever a call gives beside the count
 pub unsought_said : {R T : Type 0} (values : T → List ℕ) (go : ℕ → ℕ → Listed R) (s : Said) (r : Result T Refusal) (e : Refusal) → said_of e ≡ s → IsErrAnd r (λ x. x ≡ e) → said values r ≡ count_said (in_category s go)
 unfolding in_category
 unsought_said values go s r e h q =
     let o = err_from_is_err_and r q in
     rw (← h, o.1, o.2) refl
 
--- .. and nothing laid changes nothing
-pub nothing : {A : Type 0} → (xs : List A) → xs ≡ overlay xs 0 []
-nothing xs = sym (overlay-none xs 0)
+-- .. and nothing is laid
+pub unsought : {R : Type 0} (go : ℕ → ℕ → Listed R) (lay : ℕ → ℕ → List R) (s : Said) (r : Result ℕ Refusal) (e : Refusal) (lent : List R) → said_of e ≡ s → IsErrAnd r (λ x. x ≡ e) →
+    (said number_value r ≡ count_said (in_category s go)) × (lent ≡ overlay lent 0 (laid_in s lay))
+unfolding laid_in
+unsought go lay s r e lent h q = (unsought_said number_value go s r e h q, rw (← h) (nothing lent))
 
 -- what is laid of a list that is not refused is the list
 laid-list : {R : Type 0} (item : ℕ → Item R) (room p : ℕ) (l : List R) → records item room p ≡ holds l → laid_records item room p ≡ l

@@ -1,5 +1,6 @@
 // A command: what its words say, and what it does with its file.
 ghost use Rattle.std.specs.Prelude.{◌≤◌};
+ghost use Rattle.eeprom.specs.Image.{image_most};
 
 use crate::file::FileError;
 use crate::report::Report;
@@ -40,7 +41,7 @@ enum Action {
 impl Action {
     // The most bytes of the file.
     fn most(self) -> usize
-        ensures { result ≤ 131072 }
+        ensures { result ≤ image_most }
     {
         match self {
             Action::Frame => FRAME_MOST,

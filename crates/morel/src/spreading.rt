@@ -1,5 +1,7 @@
 // `morel spread`: how a process image is cut over fresh areas, and the frames. Logical writes, from address 0 on.
-ghost use Rattle.std.specs.Prelude.{◌≤◌};
+ghost use Rattle.std.specs.Prelude.{◌*◌, ◌≤◌};
+ghost use Rattle.pdu.specs.Pdu.{area_most};
+ghost use Rattle.spread.specs.Row.{areas_most};
 
 use crate::frame::COMMANDS;
 use crate::report::Report;
@@ -47,7 +49,7 @@ pub(crate) fn cut(
 
 // The bytes of a row of areas. None where the bounds are passed: spreading over no area is refused as it is over such a row.
 fn row_bytes(size: usize, areas: usize) -> usize
-    ensures { result ≤ 65504 }
+    ensures { result ≤ areas_most * area_most }
 {
     if AREA_MOST < size || AREAS_MOST < areas {
         0
