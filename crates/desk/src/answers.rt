@@ -1,55 +1,43 @@
-// The text of answers, and why a request stops before it has one.
-use crate::words::LINE_MOST;
+// The text of answers.
+use crate::room::Room;
+use crate::words::{BYTES_MOST, LINE_MOST};
 use refusal::Refusal;
-use std::alloc::{AllocError, Global};
 use std::io;
 
-// Why a request stops.
-#[derive(Clone, Copy)]
-pub(crate) enum Stop {
-    // Its line can't be read, or its call refuses and nothing else is said.
-    Refuses(Refusal),
-    NoMemory(AllocError),
-}
-
 // A line that can't be read.
-pub(crate) const UNREADABLE: Stop = Stop::Refuses(Refusal::BadArgument);
+pub(crate) const UNREADABLE: Refusal = Refusal::BadArgument;
 
-// A request is answered, or it stops and has said nothing.
-pub(crate) type Answered = Result<(), Stop>;
-
-impl From<Refusal> for Stop {
-    fn from(x: Refusal) -> Stop {
-        Stop::Refuses(x)
-    }
-}
-
-impl From<AllocError> for Stop {
-    fn from(e: AllocError) -> Stop {
-        Stop::NoMemory(e)
-    }
-}
+// A request is answered, or it is refused and has said nothing: its line can't be read, or its call refuses and nothing else is said.
+pub(crate) type Answered = Result<(), Refusal>;
 
 // An item of a list that an answer gives.
 pub(crate) trait Item: Copy {
     // Its numbers.
-    fn say(self, answers: &mut Answers) -> Answered;
+    fn say(self, answers: &mut Answers);
 }
 
-// More bytes of answers than these don't wait for the input's next bytes.
+// Where more bytes of answers wait than these, they are written out at once.
 const WAITING_MOST: usize = LINE_MOST / 2;
+
+// More bytes than an answer has beside the digits of the slice that it gives back: 98 numbers at most, those of a spreading over 32 areas, each of 20
+// digits and a space at most.
+const BEFORE_SLICE_MOST: usize = 4096;
+
+// The longest answer. One that gives no slice back is shorter: that of a frame of 170 PDUs has 1,531 numbers.
+const ANSWER_MOST: usize = BEFORE_SLICE_MOST + 2 * BYTES_MOST;
+
+// What may wait, and an answer behind it.
+const TEXT_MOST: usize = WAITING_MOST + ANSWER_MOST;
 
 // The answers that wait to be written out, a line each.
 #[derive(Drop)]
 pub(crate) struct Answers {
-    text: Vec<u8>,
+    text: Room<TEXT_MOST>,
 }
 
 impl Answers {
-    pub(crate) fn new(alloc: Global) -> Answers {
-        Answers {
-            text: Vec::new(alloc),
-        }
+    pub(crate) fn new() -> Answers {
+        Answers { text: Room::new() }
     }
 
     // Writes them out.
@@ -69,51 +57,33 @@ impl Answers {
         Ok(())
     }
 
-    fn say(&mut self, text: &[u8]) -> Result<(), AllocError> {
-        self.text.extend_from_slice(text)
-    }
-
     // A number, a space before it.
-    #[tactic(auto, unfolding(lines::specs::Places::after))]
-    fn say_number(&mut self, n: u64) -> Result<(), AllocError> {
-        let mut digits = [0u8; 20];
-        let count = lines::decimal(&mut digits, 0, n);
-        self.say(b" ")?;
-        self.say(&digits[..count])
+    fn say_number(&mut self, n: u64) {
+        self.text.say(b" ");
+        self.text.say_decimal(n);
     }
 
-    pub(crate) fn say_refusal(&mut self, x: Refusal) -> Result<(), AllocError> {
-        self.say(b"refuses")?;
-        self.say_number(u64::from(refusal::number(x)))?;
-        let values = refusal::values(x);
-        for n in values.items.iter().take(values.count) {
-            self.say_number(*n)?;
-        }
-        Ok(())
-    }
-
-    pub(crate) fn end_line(&mut self) -> Result<(), AllocError> {
-        self.say(b"\n")
+    pub(crate) fn end_line(&mut self) {
+        self.text.say(b"\n");
     }
 
     // More numbers of an answer or a record.
-    pub(crate) fn numbers(&mut self, numbers: &[u64]) -> Answered {
+    pub(crate) fn numbers(&mut self, numbers: &[u64]) {
         for n in numbers {
-            self.say_number(*n)?;
+            self.say_number(*n);
         }
-        Ok(())
     }
 
-    pub(crate) fn gives(&mut self, values: &[u64]) -> Answered {
-        self.say(b"gives")?;
-        self.numbers(values)
+    pub(crate) fn gives(&mut self, values: &[u64]) {
+        self.text.say(b"gives");
+        self.numbers(values);
     }
 
-    pub(crate) fn gives_one<T: Into<u64>>(&mut self, value: T) -> Answered {
-        self.gives(&[value.into()])
+    pub(crate) fn gives_one<T: Into<u64>>(&mut self, value: T) {
+        self.gives(&[value.into()]);
     }
 
-    pub(crate) fn gives_if_any<T: Into<u64>>(&mut self, value: Option<T>) -> Answered {
+    pub(crate) fn gives_if_any<T: Into<u64>>(&mut self, value: Option<T>) {
         match value {
             Some(value) => self.gives_one(value),
             None => self.absent(),
@@ -121,27 +91,29 @@ impl Answers {
     }
 
     // A list's count, and the numbers of each of its items. It takes no slice of as many: that a list has no more items than places is a law
-    // of its crate and no type's, and the seven calls that would cut the slice did not prove without a proof file each.
-    pub(crate) fn gives_list<T: Item>(&mut self, items: &[T], count: usize) -> Answered {
-        self.gives(&[count as u64])?;
+    // of its crate and no type's, and calls that cut the slice did not prove without a proof file each.
+    pub(crate) fn gives_list<T: Item>(&mut self, items: &[T], count: usize) {
+        self.gives(&[count as u64]);
         for item in items.iter().take(count) {
-            item.say(self)?;
+            item.say(self);
         }
-        Ok(())
     }
 
-    pub(crate) fn absent(&mut self) -> Answered {
-        self.say(b"absent")?;
-        Ok(())
+    pub(crate) fn absent(&mut self) {
+        self.text.say(b"absent");
     }
 
-    pub(crate) fn refuses(&mut self, x: Refusal) -> Answered {
-        self.say_refusal(x)?;
-        Ok(())
+    pub(crate) fn refuses(&mut self, x: Refusal) {
+        self.text.say(b"refuses");
+        self.say_number(u64::from(refusal::number(x)));
+        let values = refusal::values(x);
+        for n in values.items.iter().take(values.count) {
+            self.say_number(*n);
+        }
     }
 
     // What a call says that gives these values.
-    pub(crate) fn says<const N: usize>(&mut self, answer: Result<[u64; N], Refusal>) -> Answered {
+    pub(crate) fn says<const N: usize>(&mut self, answer: Result<[u64; N], Refusal>) {
         match answer {
             Ok(values) => self.gives(&values),
             Err(x) => self.refuses(x),
@@ -149,7 +121,7 @@ impl Answers {
     }
 
     // .. that gives one value.
-    pub(crate) fn says_one<T: Into<u64>>(&mut self, answer: Result<T, Refusal>) -> Answered {
+    pub(crate) fn says_one<T: Into<u64>>(&mut self, answer: Result<T, Refusal>) {
         match answer {
             Ok(value) => self.gives_one(value),
             Err(x) => self.refuses(x),
@@ -157,10 +129,7 @@ impl Answers {
     }
 
     // .. that gives one value or none.
-    pub(crate) fn says_if_any<T: Into<u64>>(
-        &mut self,
-        answer: Result<Option<T>, Refusal>,
-    ) -> Answered {
+    pub(crate) fn says_if_any<T: Into<u64>>(&mut self, answer: Result<Option<T>, Refusal>) {
         match answer {
             Ok(value) => self.gives_if_any(value),
             Err(x) => self.refuses(x),
@@ -168,7 +137,7 @@ impl Answers {
     }
 
     // .. that says only that it is done.
-    pub(crate) fn says_done(&mut self, answer: Result<(), Refusal>) -> Answered {
+    pub(crate) fn says_done(&mut self, answer: Result<(), Refusal>) {
         match answer {
             Ok(()) => self.gives(&[]),
             Err(x) => self.refuses(x),
@@ -176,18 +145,14 @@ impl Answers {
     }
 
     // A record as it is after the call.
-    pub(crate) fn record(&mut self, numbers: &[u64]) -> Answered {
-        self.say(b" @")?;
-        self.numbers(numbers)
+    pub(crate) fn record(&mut self, numbers: &[u64]) {
+        self.text.say(b" @");
+        self.numbers(numbers);
     }
 
     // A lent slice as it is after the call.
-    pub(crate) fn lent(&mut self, bytes: &[u8]) -> Answered {
-        self.say(b" | ")?;
-        let from = self.text.len();
-        let count = (2 * bytes.len()).max(1);
-        self.text.resize(from.saturating_add(count), 0)?;
-        lines::hex_out(&mut self.text, from, bytes);
-        Ok(())
+    pub(crate) fn lent(&mut self, bytes: &[u8]) {
+        self.text.say(b" | ");
+        self.text.say_hex(bytes);
     }
 }

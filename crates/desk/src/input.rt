@@ -1,8 +1,16 @@
 // Standard input by lines.
+use crate::room::Room;
 use crate::words::LINE_MOST;
-use std::alloc::{AllocError, Global};
 use std::io;
-use std::io::BufRead;
+use std::io::Read;
+
+// So many bytes of input are asked for at once.
+const CHUNK_BYTES: usize = 65536;
+
+// Of a line that is too long, one byte more than it may have is kept.
+const KEPT_MOST: usize = LINE_MOST + 1;
+
+pub(crate) type Line = Room<KEPT_MOST>;
 
 // What the input's next bytes make of a line.
 pub(crate) enum Taken {
@@ -14,34 +22,60 @@ pub(crate) enum Taken {
     Nothing,
 }
 
-// Takes the bytes that the input has at hand, or waits for some: up to the line's end, or all of them. A line that the input ends
-// within is whole, unless it is empty.
-pub(crate) fn take<B: BufRead>(input: &mut B, line: &mut Vec<u8>) -> io::Result<Taken> {
-    let bytes = input.fill_buf()?;
-    let count = bytes.len();
-    if count == 0 {
-        return Ok(if line.is_empty() {
-            Taken::Nothing
-        } else {
-            Taken::Whole
-        });
-    }
-    match bytes.iter().position(|b| *b == b'\n') {
-        Some(end) => {
-            keep(line, &bytes[..end])?;
-            input.consume(end + 1);
-            Ok(Taken::Whole)
-        }
-        None => {
-            keep(line, bytes)?;
-            input.consume(count);
-            Ok(Taken::Part)
-        }
-    }
+// The bytes of the input that are at hand.
+#[derive(Drop)]
+pub(crate) struct AtHand {
+    chunk: [u8; CHUNK_BYTES],
+    // Those that are not taken yet.
+    from: usize,
+    end: usize,
 }
 
-// More bytes of a line. Of one that is too long, one byte more than it may have is kept.
-fn keep(line: &mut Vec<u8>, bytes: &[u8]) -> Result<(), AllocError> {
-    let room = (LINE_MOST + 1).saturating_sub(line.len());
-    line.extend_from_slice(&bytes[..room.min(bytes.len())])
+impl AtHand {
+    pub(crate) fn new() -> AtHand {
+        AtHand {
+            chunk: [0; CHUNK_BYTES],
+            from: 0,
+            end: 0,
+        }
+    }
+
+    fn as_slice(&self) -> &[u8] {
+        self.chunk.get(self.from..self.end).unwrap_or(&[])
+    }
+
+    pub(crate) fn is_empty(&self) -> bool {
+        self.from >= self.end
+    }
+
+    // The input's next bytes, or a wait for some; none at its end.
+    pub(crate) fn read(&mut self, input: &mut impl Read) -> io::Result<()> {
+        self.end = input.read(&mut self.chunk)?;
+        self.from = 0;
+        Ok(())
+    }
+
+    // Takes them up to the line's end, or all of them. A line that the input ends within is whole, unless it is empty.
+    pub(crate) fn take(&mut self, line: &mut Line) -> Taken {
+        let bytes = self.as_slice();
+        if bytes.is_empty() {
+            return if line.is_empty() {
+                Taken::Nothing
+            } else {
+                Taken::Whole
+            };
+        }
+        match bytes.iter().position(|b| *b == b'\n') {
+            Some(end) => {
+                line.say(&bytes[..end]);
+                self.from = self.from.saturating_add(end).saturating_add(1);
+                Taken::Whole
+            }
+            None => {
+                line.say(bytes);
+                self.from = self.end;
+                Taken::Part
+            }
+        }
+    }
 }

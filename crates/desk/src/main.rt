@@ -13,36 +13,36 @@ mod on_sii;
 mod on_spread;
 mod on_strings;
 mod requests;
+mod room;
 mod words;
 
 use crate::answers::Answers;
-use crate::input::Taken;
-use crate::words::LINE_MOST;
+use crate::input::{AtHand, Line, Taken};
+use crate::words::BYTES_ROOM;
 use std::io;
-use std::io::{BufRead, BufReader, Input};
-
-// So many bytes of input are asked for at once.
-const CHUNK_BYTES: usize = 65536;
+use std::io::Input;
 
 fn main(rt: HostRuntime) -> io::Result<()> {
     serve(&rt)
 }
 
 // A proved loop has to end, and nothing says that the input does: the turns are a number that no run uses up.
-fn serve<R: Input + Print + AllocGlobal>(rt: &R) -> io::Result<()> {
-    let mut input = BufReader::with_capacity(rt.alloc(), CHUNK_BYTES, rt.reader())?;
-    // Room for the longest line from the start: one that grew would ask for twice as much.
-    let mut line = Vec::with_capacity(rt.alloc(), LINE_MOST + 1)?;
-    let mut answers = Answers::new(rt.alloc());
+fn serve<R: Input + Print>(rt: &R) -> io::Result<()> {
+    // Rooms of fixed sizes, into which the longest line, its BYTES and its answer fit: the desk asks for no memory.
+    let mut input = AtHand::new();
+    let mut line = Line::new();
+    let mut bytes = [0u8; BYTES_ROOM];
+    let mut answers = Answers::new();
     for _ in 0..u64::MAX {
-        if input.buffer().is_empty() {
+        if input.is_empty() {
             // There may be a wait for the input's next bytes: all answers go out before.
             answers.write_out(rt)?;
+            input.read(&mut rt.reader())?;
         }
-        match input::take(&mut input, &mut line)? {
+        match input.take(&mut line) {
             Taken::Part => {}
             Taken::Whole => {
-                requests::answer(rt.alloc(), line.as_slice(), &mut answers)?;
+                requests::answer(line.as_slice(), &mut bytes, &mut answers);
                 line.clear();
                 answers.write_out_many(rt)?;
             }

@@ -1,7 +1,8 @@
 // The requests on a port record.
-use crate::answers::{Answered, Answers, Stop};
+use crate::answers::{Answered, Answers};
 use crate::words::Words;
 use ports::{Ports, Topology};
+use refusal::Refusal;
 
 // More bytes than the text of any ports has.
 const TEXT_ROOM: usize = 64;
@@ -16,7 +17,7 @@ struct Place {
 
 impl<'a> Words<'a> {
     // One place of a port record. LINK 0 is none.
-    fn place(&mut self) -> Result<Place, Stop> {
+    fn place(&mut self) -> Result<Place, Refusal> {
         let active = self.active()?;
         let dc_receive_time = self.long()?;
         let link = self.short()?;
@@ -28,7 +29,7 @@ impl<'a> Words<'a> {
     }
 
     // P
-    fn ports(&mut self) -> Result<Ports, Stop> {
+    fn ports(&mut self) -> Result<Ports, Refusal> {
         let places = [self.place()?, self.place()?, self.place()?, self.place()?];
         let [first, second, third, fourth] = places.map(|p| p.active);
         let mut ports = Ports::new(first, second, third, fourth);
@@ -40,14 +41,14 @@ impl<'a> Words<'a> {
     }
 
     // P and no further word.
-    fn last_ports(&mut self) -> Result<Ports, Stop> {
+    fn last_ports(&mut self) -> Result<Ports, Refusal> {
         let ports = self.ports()?;
         self.end()?;
         Ok(ports)
     }
 
     // P PORT
-    fn ports_and_port(&mut self) -> Result<(Ports, u8), Stop> {
+    fn ports_and_port(&mut self) -> Result<(Ports, u8), Refusal> {
         let ports = self.ports()?;
         let port = self.byte()?;
         self.end()?;
@@ -55,7 +56,7 @@ impl<'a> Words<'a> {
     }
 
     // P LINK
-    fn ports_and_link(&mut self) -> Result<(Ports, u16), Stop> {
+    fn ports_and_link(&mut self) -> Result<(Ports, u16), Refusal> {
         let ports = self.ports()?;
         let link = self.short()?;
         self.end()?;
@@ -65,28 +66,29 @@ impl<'a> Words<'a> {
 
 impl Answers {
     // A port record as it is after the call.
-    fn ports(&mut self, ports: Ports) -> Answered {
-        self.record(&[])?;
+    fn ports(&mut self, ports: Ports) {
+        self.record(&[]);
         for port in ports.0 {
             let link = u64::from(port.downstream_to.unwrap_or(0));
             self.numbers(&[
                 u64::from(port.active),
                 u64::from(port.dc_receive_time),
                 link,
-            ])?;
+            ]);
         }
-        Ok(())
     }
 }
 
 pub(crate) fn entry(words: &mut Words, answers: &mut Answers) -> Answered {
     let ports = words.last_ports()?;
-    answers.gives_one(ports.entry_port()?)
+    answers.gives_one(ports.entry_port()?);
+    Ok(())
 }
 
 pub(crate) fn last(words: &mut Words, answers: &mut Answers) -> Answered {
     let ports = words.last_ports()?;
-    answers.gives_if_any(ports.last_port())
+    answers.gives_if_any(ports.last_port());
+    Ok(())
 }
 
 pub(crate) fn topology(words: &mut Words, answers: &mut Answers) -> Answered {
@@ -97,40 +99,47 @@ pub(crate) fn topology(words: &mut Words, answers: &mut Answers) -> Answered {
         Topology::Passthrough => 2,
         Topology::Fork => 3,
         Topology::Cross => 4,
-    })
+    });
+    Ok(())
 }
 
 pub(crate) fn total(words: &mut Words, answers: &mut Answers) -> Answered {
     let ports = words.last_ports()?;
-    answers.gives_if_any(ports.total_propagation_time())
+    answers.gives_if_any(ports.total_propagation_time());
+    Ok(())
 }
 
 // `totalfrom` and `timeto` stay two functions: what they share are two calls, and a generic one would need a bound and a clause of four lines.
 pub(crate) fn total_from(words: &mut Words, answers: &mut Answers) -> Answered {
     let (ports, entry) = words.ports_and_port()?;
-    answers.gives_if_any(ports.total_propagation_time_from(entry)?)
+    answers.gives_if_any(ports.total_propagation_time_from(entry)?);
+    Ok(())
 }
 
 pub(crate) fn time_to(words: &mut Words, answers: &mut Answers) -> Answered {
     let (ports, port) = words.ports_and_port()?;
-    answers.gives_if_any(ports.propagation_time_to(port)?)
+    answers.gives_if_any(ports.propagation_time_to(port)?);
+    Ok(())
 }
 
 pub(crate) fn between(words: &mut Words, answers: &mut Answers) -> Answered {
     let (ports, port) = words.ports_and_port()?;
-    answers.gives_one(ports.intermediate_propagation_time_to(port)?)
+    answers.gives_one(ports.intermediate_propagation_time_to(port)?);
+    Ok(())
 }
 
 pub(crate) fn linked(words: &mut Words, answers: &mut Answers) -> Answered {
     let (ports, link) = words.ports_and_link()?;
-    answers.gives_if_any(ports.port_assigned_to(link)?)
+    answers.gives_if_any(ports.port_assigned_to(link)?);
+    Ok(())
 }
 
 pub(crate) fn assign(words: &mut Words, answers: &mut Answers) -> Answered {
     let (ports, link) = words.ports_and_link()?;
     let assigned = held::after_assign(ports, link);
-    answers.says_if_any(assigned.answer)?;
-    answers.ports(assigned.ports)
+    answers.says_if_any(assigned.answer);
+    answers.ports(assigned.ports);
+    Ok(())
 }
 
 pub(crate) fn times(words: &mut Words, answers: &mut Answers) -> Answered {
@@ -141,14 +150,16 @@ pub(crate) fn times(words: &mut Words, answers: &mut Answers) -> Answered {
     let time_p2 = words.long()?;
     words.end()?;
     held::set_receive_times(&mut ports, time_p0, time_p3, time_p1, time_p2);
-    answers.gives(&[])?;
-    answers.ports(ports)
+    answers.gives(&[]);
+    answers.ports(ports);
+    Ok(())
 }
 
 pub(crate) fn display(words: &mut Words, answers: &mut Answers) -> Answered {
     let ports = words.last_ports()?;
     let mut text = [0u8; TEXT_ROOM];
     let count = ports.display(&mut text)?;
-    answers.gives(&[])?;
-    answers.lent(text.get(..count).unwrap_or(&text))
+    answers.gives(&[]);
+    answers.lent(text.get(..count).unwrap_or(&text));
+    Ok(())
 }

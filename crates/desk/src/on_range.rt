@@ -1,5 +1,5 @@
 // The requests on the checksum and the EEPROM range. A range that has an image keeps it inside.
-use crate::answers::{Answered, Answers, Stop};
+use crate::answers::{Answered, Answers};
 use crate::words::Words;
 use eeprom::Range;
 use held::EepromRange;
@@ -11,7 +11,7 @@ pub(crate) fn range_row(range: Range) -> [u64; 2] {
 
 impl<'a> Words<'a> {
     // R: where the range stands, and where it ends.
-    fn range(&mut self) -> Result<Range, Stop> {
+    fn range(&mut self) -> Result<Range, Refusal> {
         let byte_pos = self.long()?;
         let end = self.long()?;
         Ok(Range { byte_pos, end })
@@ -20,8 +20,8 @@ impl<'a> Words<'a> {
 
 impl Answers {
     // R as it is after the call.
-    fn range(&mut self, range: Range) -> Answered {
-        self.record(&range_row(range))
+    fn range(&mut self, range: Range) {
+        self.record(&range_row(range));
     }
 }
 
@@ -44,7 +44,8 @@ fn standing(range: EepromRange) -> Range {
 pub(crate) fn crc(words: &mut Words, answers: &mut Answers) -> Answered {
     let bytes = words.bytes()?;
     words.end()?;
-    answers.gives_one(crc::crc(&bytes))
+    answers.gives_one(crc::crc(bytes));
+    Ok(())
 }
 
 // A range by the word at which it starts and its length.
@@ -58,7 +59,8 @@ fn made<F: FnOnce(u16, u16) -> Result<Range, Refusal>>(
     let start = words.short()?;
     let len = words.short()?;
     words.end()?;
-    answers.gives(&range_row(make(start, len)?))
+    answers.gives(&range_row(make(start, len)?));
+    Ok(())
 }
 
 // The length in words.
@@ -77,48 +79,53 @@ pub(crate) fn skip(words: &mut Words, answers: &mut Answers) -> Answered {
     let count = words.short()?;
     words.end()?;
     let mut range = over(&[], range);
-    answers.says_done(range.skip_ahead_bytes(count))?;
-    answers.range(standing(range))
+    answers.says_done(range.skip_ahead_bytes(count));
+    answers.range(standing(range));
+    Ok(())
 }
 
 pub(crate) fn byte(words: &mut Words, answers: &mut Answers) -> Answered {
     let (image, chunk) = words.image()?;
     let range = words.range()?;
     words.end()?;
-    let read = held::byte_in(&image, range, chunk);
-    answers.says_one(read.answer)?;
-    answers.range(read.range)
+    let read = held::byte_in(image, range, chunk);
+    answers.says_one(read.answer);
+    answers.range(read.range);
+    Ok(())
 }
 
 pub(crate) fn read(words: &mut Words, answers: &mut Answers) -> Answered {
     let (image, chunk) = words.image()?;
     let range = words.range()?;
-    let mut buf = words.bytes()?;
+    let buf = words.bytes()?;
     words.end()?;
-    let mut range = over(&image, range);
-    answers.says_one(range.read(chunk, &mut buf))?;
-    answers.range(standing(range))?;
-    answers.lent(&buf)
+    let mut range = over(image, range);
+    answers.says_one(range.read(chunk, buf));
+    answers.range(standing(range));
+    answers.lent(buf);
+    Ok(())
 }
 
 pub(crate) fn exact(words: &mut Words, answers: &mut Answers) -> Answered {
     let (image, chunk) = words.image()?;
     let range = words.range()?;
-    let mut buf = words.bytes()?;
+    let buf = words.bytes()?;
     words.end()?;
-    let mut range = over(&image, range);
-    answers.says_done(range.read_exact(chunk, &mut buf))?;
-    answers.range(standing(range))?;
-    answers.lent(&buf)
+    let mut range = over(image, range);
+    answers.says_done(range.read_exact(chunk, buf));
+    answers.range(standing(range));
+    answers.lent(buf);
+    Ok(())
 }
 
 pub(crate) fn write(words: &mut Words, answers: &mut Answers) -> Answered {
-    let mut image = words.bytes()?;
+    let image = words.bytes()?;
     let range = words.range()?;
     let bytes = words.bytes()?;
     words.end()?;
-    let written = held::write_in(&mut image, range, &bytes);
-    answers.says_one(written.answer)?;
-    answers.range(written.range)?;
-    answers.lent(&image)
+    let written = held::write_in(image, range, bytes);
+    answers.says_one(written.answer);
+    answers.range(written.range);
+    answers.lent(image);
+    Ok(())
 }

@@ -5,14 +5,14 @@ use crate::words::Words;
 use created_frame::{Builder, state_row};
 
 impl Item for Builder {
-    fn say(self, answers: &mut Answers) -> Answered {
-        answers.numbers(&state_row(self))
+    fn say(self, answers: &mut Answers) {
+        answers.numbers(&state_row(self));
     }
 }
 
 pub(crate) fn spread(words: &mut Words, answers: &mut Answers) -> Answered {
     let size = usize::from(words.short()?);
-    let mut areas = words.bytes()?;
+    let areas = words.bytes()?;
     let Pushing {
         state,
         index,
@@ -21,11 +21,12 @@ pub(crate) fn spread(words: &mut Words, answers: &mut Answers) -> Answered {
     } = words.pushing()?;
     let image = words.bytes()?;
     words.end()?;
-    let spreading = spread::spread(&mut areas, size, state, index, command, address, &image);
+    let spreading = spread::spread(areas, size, state, index, command, address, image);
     match spreading.answer {
-        Ok(last) => answers.gives_list(&spreading.states, last)?,
-        Err(x) => answers.refuses(x)?,
+        Ok(last) => answers.gives_list(&spreading.states, last),
+        Err(x) => answers.refuses(x),
     }
-    answers.record(&[u64::from(spreading.next)])?;
-    answers.lent(&areas)
+    answers.record(&[u64::from(spreading.next)]);
+    answers.lent(areas);
+    Ok(())
 }

@@ -7,10 +7,11 @@ use refusal::Refusal;
 pub(crate) fn string(words: &mut Words, answers: &mut Answers) -> Answered {
     let (image, chunk) = words.image()?;
     let index = words.byte()?;
-    let mut room = words.bytes()?;
+    let room = words.bytes()?;
     words.end()?;
-    answers.says_if_any(strings::find_string(&image, chunk, index, &mut room))?;
-    answers.lent(&room)
+    answers.says_if_any(strings::find_string(image, chunk, index, room));
+    answers.lent(room);
+    Ok(())
 }
 
 // A text that the image alone names, into the room that is lent.
@@ -22,10 +23,11 @@ fn named<F: FnOnce(&[u8], Chunk, &mut [u8]) -> Result<Option<u16>, Refusal>>(
     requires { F.IsAlwaysCallable find }
 {
     let (image, chunk) = words.image()?;
-    let mut room = words.bytes()?;
+    let room = words.bytes()?;
     words.end()?;
-    answers.says_if_any(find(&image, chunk, &mut room))?;
-    answers.lent(&room)
+    answers.says_if_any(find(image, chunk, room));
+    answers.lent(room);
+    Ok(())
 }
 
 pub(crate) fn name(words: &mut Words, answers: &mut Answers) -> Answered {

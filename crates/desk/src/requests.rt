@@ -1,27 +1,25 @@
 // A line's answer: its request by name.
-use crate::answers::{Answered, Answers, Stop, UNREADABLE};
+use crate::answers::{Answered, Answers, UNREADABLE};
 use crate::words::{LINE_MOST, Words};
 use crate::{
     on_frames, on_lists, on_ports, on_range, on_received, on_setup, on_sii, on_spread, on_strings,
 };
-use std::alloc::{AllocError, Global};
 
-// The answer to a line, behind those that wait.
-pub(crate) fn answer(alloc: Global, line: &[u8], answers: &mut Answers) -> Result<(), AllocError> {
-    match asked(alloc, line, answers) {
+// The answer to a line, behind those that wait. The BYTES of its words go into the room.
+pub(crate) fn answer(line: &[u8], room: &mut [u8], answers: &mut Answers) {
+    match asked(line, room, answers) {
         Ok(()) => {}
-        Err(Stop::Refuses(x)) => answers.say_refusal(x)?,
-        Err(Stop::NoMemory(e)) => return Err(e),
+        Err(x) => answers.refuses(x),
     }
-    answers.end_line()
+    answers.end_line();
 }
 
 // A line that is too long can't be read.
-fn asked(alloc: Global, line: &[u8], answers: &mut Answers) -> Answered {
+fn asked(line: &[u8], room: &mut [u8], answers: &mut Answers) -> Answered {
     if line.len() > LINE_MOST {
         return Err(UNREADABLE);
     }
-    let mut words = Words::behind_name(alloc, line);
+    let mut words = Words::behind_name(line, room);
     by_name(lines::word(line, 0), &mut words, answers)
 }
 
