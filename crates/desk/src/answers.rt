@@ -27,17 +27,19 @@ const BEFORE_SLICE_MOST: usize = 4096;
 const ANSWER_MOST: usize = BEFORE_SLICE_MOST + 2 * BYTES_MOST;
 
 // What may wait, and an answer behind it.
-const TEXT_MOST: usize = WAITING_MOST + ANSWER_MOST;
+pub(crate) const TEXT_MOST: usize = WAITING_MOST + ANSWER_MOST;
 
 // The answers that wait to be written out, a line each.
 #[derive(Drop)]
-pub(crate) struct Answers {
-    text: Room<TEXT_MOST>,
+pub(crate) struct Answers<'a> {
+    text: Room<'a>,
 }
 
-impl Answers {
-    pub(crate) fn new() -> Answers {
-        Answers { text: Room::new() }
+impl<'a> Answers<'a> {
+    pub(crate) fn new(room: &'a mut [u8]) -> Answers<'a> {
+        Answers {
+            text: Room::new(room),
+        }
     }
 
     // Writes them out.

@@ -5,12 +5,10 @@ use std::io;
 use std::io::Read;
 
 // So many bytes of input are asked for at once.
-const CHUNK_BYTES: usize = 65536;
+pub(crate) const CHUNK_BYTES: usize = 65536;
 
 // Of a line that is too long, one byte more than it may have is kept.
-const KEPT_MOST: usize = LINE_MOST + 1;
-
-pub(crate) type Line = Room<KEPT_MOST>;
+pub(crate) const KEPT_MOST: usize = LINE_MOST + 1;
 
 // What the input's next bytes make of a line.
 pub(crate) enum Taken {
@@ -24,17 +22,17 @@ pub(crate) enum Taken {
 
 // The bytes of the input that are at hand.
 #[derive(Drop)]
-pub(crate) struct AtHand {
-    chunk: [u8; CHUNK_BYTES],
+pub(crate) struct AtHand<'a> {
+    chunk: &'a mut [u8],
     // Those that are not taken yet.
     from: usize,
     end: usize,
 }
 
-impl AtHand {
-    pub(crate) fn new() -> AtHand {
+impl<'a> AtHand<'a> {
+    pub(crate) fn new(chunk: &'a mut [u8]) -> AtHand<'a> {
         AtHand {
-            chunk: [0; CHUNK_BYTES],
+            chunk,
             from: 0,
             end: 0,
         }
@@ -50,13 +48,13 @@ impl AtHand {
 
     // The input's next bytes, or a wait for some; none at its end.
     pub(crate) fn read(&mut self, input: &mut impl Read) -> io::Result<()> {
-        self.end = input.read(&mut self.chunk)?;
+        self.end = input.read(self.chunk)?;
         self.from = 0;
         Ok(())
     }
 
     // Takes them up to the line's end, or all of them. A line that the input ends within is whole, unless it is empty.
-    pub(crate) fn take(&mut self, line: &mut Line) -> Taken {
+    pub(crate) fn take(&mut self, line: &mut Room) -> Taken {
         let bytes = self.as_slice();
         if bytes.is_empty() {
             return if line.is_empty() {

@@ -38,7 +38,7 @@ impl<'a> Words<'a> {
     }
 }
 
-impl Answers {
+impl<'a> Answers<'a> {
     // S as it is after the call.
     fn state(&mut self, state: Builder, index: u8) {
         self.record(&state_row(state));

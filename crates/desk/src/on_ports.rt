@@ -64,7 +64,7 @@ impl<'a> Words<'a> {
     }
 }
 
-impl Answers {
+impl<'a> Answers<'a> {
     // A port record as it is after the call.
     fn ports(&mut self, ports: Ports) {
         self.record(&[]);

@@ -18,7 +18,7 @@ impl<'a> Words<'a> {
     }
 }
 
-impl Answers {
+impl<'a> Answers<'a> {
     // R as it is after the call.
     fn range(&mut self, range: Range) {
         self.record(&range_row(range));

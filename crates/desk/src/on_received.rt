@@ -1,14 +1,15 @@
 // The request that matches a frame that came back with handles. Its words are counted: a number, so many handles, then the frame.
 use crate::answers::{Answered, Answers, Item, UNREADABLE};
 use crate::words::Words;
+use pdu::PDUS_MOST;
 use received::ReceivedPdu;
 use refusal::Refusal;
 
 // So many handles at most.
 const HANDLES_MOST: u16 = 2000;
 
-// So many of them are handed on: more than a frame has PDUs, so that each which is left out would be spare.
-const HANDED_ON_MOST: usize = 400;
+// So many of them are handed on: one more than a frame can have PDUs. That one is spare already, so that those which are left out change no answer.
+const HANDED_ON_MOST: usize = PDUS_MOST + 1;
 
 type Handle = [u64; 4];
 

@@ -1,22 +1,20 @@
-// Bytes at the front of a room of a fixed size: a line that comes in, answers that wait to go out.
+// Bytes at the front of a lent room: a line that comes in, answers that wait to go out. The room is lent, since one that a function gives back is copied
+// on the stack where a build does not optimize.
 
 #[derive(Drop)]
-pub(crate) struct Room<const N: usize> {
-    bytes: [u8; N],
+pub(crate) struct Room<'a> {
+    bytes: &'a mut [u8],
     // So many of them count.
     length: usize,
 }
 
-impl<const N: usize> Room<N> {
-    pub(crate) fn new() -> Room<N> {
-        Room {
-            bytes: [0; N],
-            length: 0,
-        }
+impl<'a> Room<'a> {
+    pub(crate) fn new(bytes: &'a mut [u8]) -> Room<'a> {
+        Room { bytes, length: 0 }
     }
 
     pub(crate) fn as_slice(&self) -> &[u8] {
-        self.bytes.get(..self.length).unwrap_or(&self.bytes)
+        self.bytes.get(..self.length).unwrap_or(&[])
     }
 
     pub(crate) fn len(&self) -> usize {
@@ -33,16 +31,16 @@ impl<const N: usize> Room<N> {
 
     // More bytes, as many as there is room for: of a line that is too long not all, of answers all.
     pub(crate) fn say(&mut self, bytes: &[u8]) {
-        self.length = lines::say(&mut self.bytes, self.length, bytes);
+        self.length = lines::say(self.bytes, self.length, bytes);
     }
 
     // .. a number in decimal.
     pub(crate) fn say_decimal(&mut self, n: u64) {
-        self.length = lines::decimal(&mut self.bytes, self.length, n);
+        self.length = lines::decimal(self.bytes, self.length, n);
     }
 
     // .. bytes as pairs of hex digits.
     pub(crate) fn say_hex(&mut self, bytes: &[u8]) {
-        self.length = lines::hex_out(&mut self.bytes, self.length, bytes);
+        self.length = lines::hex_out(self.bytes, self.length, bytes);
     }
 }
