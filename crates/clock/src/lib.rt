@@ -2,6 +2,9 @@
 // Follows ETG2010, category DC, and RULES, lists. specs/Layout.antt says where each field lies.
 #![tactic(auto)]
 
+#[cfg(test)]
+mod tests;
+
 ghost use Rattle.std.specs.Prelude.{◌≡◌, ◌+◌, ◌^◌, ◌<◌};
 ghost use Rattle.lists.specs.Records.{back};
 ghost use Rattle.clock.specs.Clocks.{clock_of, clock_values, clock_zero, clock_most, clock_at, clocks_of};
@@ -9,7 +12,7 @@ ghost use Rattle.clock.specs.Answers.{back_clocks};
 
 use category::DISTRIBUTED_CLOCK;
 use eeprom::{Chunk, Pos, Range, byte_of, long_of, word_of};
-use lists::{Record, read_records, rest_behind};
+use lists::{Record, read_array, rest_behind};
 use refusal::Refusal;
 
 // The most that are listed.
@@ -59,12 +62,7 @@ pub fn distributed_clocks(image: &[u8], chunk: Chunk) -> Result<DistributedClock
     ensures { back_clocks result ≡ back clock_zero clock_most (clocks_of image.now) }
 {
     let blank = [DistributedClock::default(); CLOCK_MOST];
-    let (count, items) = read_records::<DistributedClock, _>(
-        image,
-        chunk,
-        DISTRIBUTED_CLOCK,
-        blank,
-    )?;
+    let (count, items) = read_array::<DistributedClock, _>(image, chunk, DISTRIBUTED_CLOCK, blank)?;
     Ok(DistributedClocks { count, items })
 }
 

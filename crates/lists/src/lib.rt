@@ -103,9 +103,24 @@ pub fn rest_behind(rest: Range, bytes: Pos) -> Option<Range>
     }
 }
 
-// Reads the records of the category of this number over the blank places, from the first on; gives how many there are, none where there is no category, and the places.
-// Refuses what the search for it does; then 5, and 6 if one more record stands there than there are places. The caller says how many there are, and what an unused one holds.
-pub fn read_records<R: Record, const N: usize>(
+// Reads the records of the category of this number into the places, from the first on, and answers how many there are: none where there is no category.
+// Refuses what the search for it does; then 5, and 6 if one more record stands there than there are places.
+// The places are lent: the caller says how many there are, and what an unused one holds. A refusal with 5 or 6 leaves the records before the fault in them.
+pub fn read_records<R: Record>(
+    image: &[u8],
+    chunk: Chunk,
+    number: u16,
+    places: &mut [R::Value],
+) -> Result<usize, Refusal>
+    ensures said { said number_value result ≡ count_said (in_category (category_said image.now number) (λ p end. records (R.item_at image.now end) (length places.old) p)) }
+    ensures lent { places.new ≡ overlay places.old 0 (laid_in (category_said image.now number) (λ p end. laid_records (R.item_at image.now end) (length places.old) p)) }
+{
+    let found = category(image, chunk, number)?;
+    read_found::<R>(image, chunk, found, places)
+}
+
+// .. over the blank places of an array, which goes in and comes back by value: nothing is lent, so a refusal leaves nothing behind.
+pub fn read_array<R: Record, const N: usize>(
     image: &[u8],
     chunk: Chunk,
     number: u16,
@@ -167,7 +182,7 @@ pub fn sync_managers(image: &[u8], chunk: Chunk) -> Result<SyncManagers, Refusal
     ensures { back_sms result ≡ back sm_zero sm_most (sms_of image.now) }
 {
     let blank = [SyncManager::default(); SM_MOST];
-    let (count, items) = read_records::<SyncManager, _>(image, chunk, SYNC_MANAGER, blank)?;
+    let (count, items) = read_array::<SyncManager, _>(image, chunk, SYNC_MANAGER, blank)?;
     Ok(SyncManagers { count, items })
 }
 
@@ -284,7 +299,7 @@ pub fn fmmu_mappings(image: &[u8], chunk: Chunk) -> Result<FmmuList, Refusal>
     ensures { back_fmmus result ≡ back 0 fmmu_most (ex_of image.now) }
 {
     let blank = [0; FMMU_MOST];
-    let (count, items) = read_records::<ExtendedFmmu, _>(image, chunk, FMMU_EXTENDED, blank)?;
+    let (count, items) = read_array::<ExtendedFmmu, _>(image, chunk, FMMU_EXTENDED, blank)?;
     Ok(FmmuList { count, items })
 }
 
@@ -359,7 +374,7 @@ fn pdos(image: &[u8], chunk: Chunk, number: u16) -> Result<PdoList, Refusal>
     ensures { back_pdos result ≡ back pdo_zero pdo_most (pdos_of image.now number) }
 {
     let blank = [Pdo::default(); PDO_MOST];
-    let (count, items) = read_records::<Pdo, _>(image, chunk, number, blank)?;
+    let (count, items) = read_array::<Pdo, _>(image, chunk, number, blank)?;
     Ok(PdoList { count, items })
 }
 

@@ -19,7 +19,7 @@ use Rattle.eeprom.proofs.Unique.{checked_unique, range_unique, byte_unique, read
 use Rattle.category.proofs.Unique.{found_unique as category-unique, inside_unique}
 use Rattle.sii.proofs.Unique.{alias_unique, set_unique, identity_unique, mailbox_unique, size_unique, general_unique, found_unique, ports_unique, word_unique}
 use Rattle.setup.proofs.Unique.{pdi_unique, bootstrap_unique, version_unique, checksum_unique}
-use Rattle.lists.proofs.Unique.{records_unique, rest_unique, sms_unique, fmmus_unique, pdos_unique}
+use Rattle.lists.proofs.Unique.{count_unique, records_unique, rest_unique, sms_unique, fmmus_unique, pdos_unique}
 use Rattle.clock.proofs.Unique.{clocks_unique}
 use Rattle.strings.proofs.Unique.{string_unique}
 use Rattle.ports.proofs.Unique.{port_unique, entry_unique, last_unique, assigned_unique, time_unique, total_unique, sum_unique, topology_unique, text_unique}
@@ -107,7 +107,8 @@ module _ {M : Type 1} {𝓤 : Ura M} (𝓛 : Logic 𝓤) (mem : Memory → SProp
     «setup::checksum_row» = λ κs a g r s ws vs. one 𝓤 (λ p q. (same p q, refl));
     -- ---- lists
     «lists::rest_behind» = λ κs a g r s ws vs. one 𝓤 (λ p q. (rest_unique _ _ r s p q, refl));
-    «lists::read_records» = λ R N V kind k copying d κs a m g h r s ws vs. two 𝓤 (λ p q p' q'. (records_unique _ r s _ p q p' q', refl));
+    «lists::read_records» = λ R V kind k copying d κs a m g h r s ws vs. two 𝓤 (λ p q p' q'. (count_unique r s _ p q, ap (λ l. (tt, (tt, (tt, (l, tt))))) (same p' q')));
+    «lists::read_array» = λ R N V kind k copying d κs a m g h r s ws vs. two 𝓤 (λ p q p' q'. (records_unique _ r s _ p q p' q', refl));
     «lists::sync_managers» = λ κs a m g h r s ws vs. one 𝓤 (λ p q. (sms_unique r s _ p q, refl));
     «lists::fmmus» = λ κs a m g h r s ws vs. one 𝓤 (λ p q. (fmmus_unique r s _ p q, refl));
     «lists::fmmu_mappings» = λ κs a m g h r s ws vs. one 𝓤 (λ p q. (fmmus_unique r s _ p q, refl));

@@ -140,8 +140,10 @@ module _ {M : Type 1} {𝓤 : Ura M} (𝓛 : Logic 𝓤) (mem : Memory → SProp
     pub «setup::checksum_row» : Whole of-setup.checksum_row.ended of-setup.checksum_row.clauses
     -- ---- lists
     pub «lists::rest_behind» : Whole of-lists.rest_behind.ended of-lists.rest_behind.clauses
-    pub «lists::read_records» : (R N V : RattleType) (kind : of-lists-records.Ghosts R.Denot V.Denot) (k : Dict) (copying : Ghosts V.Denot) (d : Dict)
-        → Wide (of-lists.read_records.ended R N V kind k copying d) (of-lists.read_records.clauses R N V kind k copying d) second IsAlike
+    pub «lists::read_records» : (R V : RattleType) (kind : of-lists-records.Ghosts R.Denot V.Denot) (k : Dict) (copying : Ghosts V.Denot) (d : Dict)
+        → Wide (of-lists.read_records.ended R V kind k copying d) (of-lists.read_records.clauses R V kind k copying d) second IsAlike
+    pub «lists::read_array» : (R N V : RattleType) (kind : of-lists-records.Ghosts R.Denot V.Denot) (k : Dict) (copying : Ghosts V.Denot) (d : Dict)
+        → Wide (of-lists.read_array.ended R N V kind k copying d) (of-lists.read_array.clauses R N V kind k copying d) second IsAlike
     pub «lists::sync_managers» : Wide of-lists.sync_managers.ended of-lists.sync_managers.clauses second IsAlike
     pub «lists::fmmus» : Wide of-lists.fmmus.ended of-lists.fmmus.clauses second IsAlike
     pub «lists::fmmu_mappings» : Wide of-lists.fmmu_mappings.ended of-lists.fmmu_mappings.clauses second IsAlike

@@ -1,6 +1,8 @@
 -- `read_records` hands on a refusal of the search.
-use Rattle.lists.proofs.Laws.{unsought_said}
+use Rattle.lists.proofs.Laws.{unsought}
 use Rattle.lists.proofs.read_records.Goals as goal
 
-pub returns-in_err-found-clause-said : goal.returns-in_err-found-clause-said
-returns-in_err-found-clause-said g c = unsought_said _ _ _ _ _ c.in_err-found.ensures c.from_residual.ensures.1
+pub returns-in_err-found : goal.returns-in_err-found
+returns-in_err-found g c =
+    let u = unsought _ _ _ _ _ _ c.in_err-found.ensures c.from_residual.ensures.1 in
+    record { said = u.0; lent = u.1 }
