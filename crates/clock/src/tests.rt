@@ -16,8 +16,8 @@ const THREE: [u8; 28] = [
     0x00, 0x11, 8, 0, 0x24, 0, 1, 3, // at 0x1100
 ];
 
-// The enable byte of the third, in the image.
-const THIRD_ENABLE: usize = CATEGORIES + 26;
+// The enable byte of the third: its usage alone stands behind it.
+const THIRD_ENABLE: usize = CATEGORIES + THREE.len() - 2;
 
 // The places there are, two more than records.
 const PLACES: usize = 5;
